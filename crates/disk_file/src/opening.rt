@@ -29,7 +29,7 @@ pub(crate) fn open_alone(
         return Err(OpenError::NotAFile);
     }
     lock(&file)?;
-    settle(rt, path, &file)?;
+    make_durable(rt, path, &file)?;
     Ok(file)
 }
 
@@ -58,7 +58,7 @@ fn answer_to(tried: Result<(), TryLockError>) -> Result<(), OpenError>
 
 // Makes sure of what an earlier process may have left open. Its folder has the file's name on the disk; and what is read is
 // what the disk has, since the kernel drops its copies of the pages, which a sync that failed may have left otherwise.
-fn settle(rt: &HostRuntime, path: &str, file: &File) -> io::Result<()> {
+fn make_durable(rt: &HostRuntime, path: &str, file: &File) -> io::Result<()> {
     file.sync_all()?;
     let advised = libc::posix_fadvise(file.as_raw_fd(), 0, 0, libc::POSIX_FADV_DONTNEED);
     if advised != 0 {

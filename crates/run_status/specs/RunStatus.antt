@@ -1,3 +1,3 @@
 pub mod Status
 pub mod Readers
-pub mod Settling
+pub mod RunEnds

@@ -13,4 +13,4 @@ pub use run_outside::{
     Making, MakingKind, MemAddress, MemDiskFile, MemFile, MemHelper, MemOutside, MemPeer, Outside,
 };
 pub use run_record::{Done, NO_MEMORY, Runs, nothing_told};
-pub use run_status::{Besides, Close, ReaderEnd, settle, status_by};
+pub use run_status::{Besides, Close, ReaderEnd, end_run, status_by};

@@ -9,4 +9,4 @@ mod run_end;
 pub use besides::Besides;
 pub use close::Close;
 pub use reader_end::ReaderEnd;
-pub use run_end::{settle, status_by};
+pub use run_end::{end_run, status_by};

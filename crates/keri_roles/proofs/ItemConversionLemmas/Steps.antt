@@ -16,7 +16,7 @@ use Rattle.cesr_binary.specs.Wire.{item_in}
 use Rattle.cesr_binary.proofs.ItemTexts.{flat_map-push}
 use Rattle.cesr_binary.proofs.MixedFed.{fed_answered, stand_on}
 use Rattle.keri_outside.specs.Shown.{SinkShown}
-use Rattle.run_status.specs.RunStatus.Settling.{Puts}
+use Rattle.run_status.specs.RunStatus.RunEnds.{Puts}
 use Rattle.keri_roles.specs.ItemConversion.Progress.{GoesOn, Progress, progress, text_in}
 
 -- one text more was put, or the sink failed at it

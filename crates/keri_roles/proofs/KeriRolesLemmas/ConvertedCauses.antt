@@ -15,7 +15,7 @@ use Rattle.run_status.specs.declared.run_status.close.Close.{Close}
 use Rattle.run_status.specs.declared.run_status.close.Close.TheVariants.{End, Bad, ReadFault, VerifierFault, SignerFault, DiskFault, WriteFault, Malformed, LimitReached, OutOfMemory}
 use Rattle.run_status.specs.RunStatus.Readers.{HasClose, Reader}
 use Rattle.keri_outside.specs.Shown.{SinkShown, SourceShown}
-use Rattle.run_status.specs.RunStatus.Settling.{FaultsHaveCauses, Puts, SettlesBy, found}
+use Rattle.run_status.specs.RunStatus.RunEnds.{FaultsHaveCauses, Puts, EndsRunBy, found}
 use Rattle.run_status.specs.RunStatus.Status.{nothing_besides, status_of}
 use Rattle.run_status.proofs.RunStatusLemmas.Causes.{faults_have_causes, words_refused}
 use Rattle.keri_roles.specs.KeriRoles.Converted.{ConvertsFrom, IsConverted, unless_no_memory}
@@ -109,8 +109,8 @@ status_causes c false e readers old new text status puts is = ⊎_elim no_memory
 
     as_found : ((s : ℕ) → unless_no_memory c.close s ≡ s) → FaultsHaveCauses readers nothing_besides old new status × (status ≢ 2)
     as_found same =
-        let settles : SettlesBy (Some text) nothing_besides readers old new status = (false, puts, is ∙ same (status_of (found nothing_besides readers false))) in
-        (faults_have_causes nothing_besides readers old new status (Some text) settles, λ two. not_true (words_refused nothing_besides readers old new status (Some text) settles two))
+        let ends_run : EndsRunBy (Some text) nothing_besides readers old new status = (false, puts, is ∙ same (status_of (found nothing_besides readers false))) in
+        (faults_have_causes nothing_besides readers old new status (Some text) ends_run, λ two. not_true (words_refused nothing_besides readers old new status (Some text) ends_run two))
 
 pub converted_causes : (domain : Domain) (name : List ℕ) (run : Run) → IsConverted domain name run → HasCauses (Some (convert domain name)) run
 converted_causes domain name run r =

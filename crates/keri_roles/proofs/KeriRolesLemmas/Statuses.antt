@@ -18,7 +18,7 @@ use Rattle.keri_roles.specs.KeriRoles.Commands.{IsRunOf, IsUnbegun, CarriesOut}
 use Rattle.keri_roles.specs.CoreRoles.CoreTold.{fails_last, last_close}
 use Rattle.keri_roles.specs.KeriRoles.Made.{IsMade, given_alone, given_behind}
 use Rattle.keri_roles.specs.KeriRoles.Rehearsed.{IsRehearsed, Serves, serving_close, serving_status}
-use Rattle.run_status.specs.RunRecord.Run.{AreCausedBy, DoorFails, DoorRose, Settles, Run, HasCauses, SignerFails, VerifierRose}
+use Rattle.run_status.specs.RunRecord.Run.{AreCausedBy, DoorFails, DoorRose, EndsRun, Run, HasCauses, SignerFails, VerifierRose}
 use Rattle.keri_roles.specs.CoreRoles.Work.{LinksShown, Work, work_in}
 use Rattle.keri_roles.specs.CoreRoles.LinksShown.{AreUnseated}
 use Rattle.run_status.specs.RunRecord.Seen.{disk_seen}
@@ -48,14 +48,14 @@ made_finds finds none apart helper plan (Some log) work m some = due_finds (give
     (m.plan_reader.close ∷ m.log_reader.close ∷ last_close m.rest ∷ []) work.signer m.owes (sym (ap finds m.besides ∙ apart m.due (fails_last m.rest)) ∙ some)
 
 -- a run that wrote what its command owes, and whose readers only read
-written_causes : (asked : Option Asked) (run : Run) (owed : Option (List ℕ)) (besides : Besides) → Settles owed besides run → (besides.words_refused ≡ true → IsNone asked)
+written_causes : (asked : Option Asked) (run : Run) (owed : Option (List ℕ)) (besides : Besides) → EndsRun owed besides run → (besides.words_refused ≡ true → IsNone asked)
     → (besides.signer_failed ≡ true → SignerFails asked run) → (besides.disk_failed ≡ true → ⊥) → (besides.shelf_full ≡ true → ⊥)
     → (besides.verifier_failed ≡ true → VerifierRose run.readers) → (besides.door_failed ≡ true → DoorFails asked run)
     → some_serves run.readers ≡ false → AreCausedBy asked run → HasCauses asked run
-written_causes asked run owed besides settles refused failed no_disk no_shelf last door reads caused = record {
-  two = λ e. refused (words_refused besides run.readers run.sink_before run.sink_after run.status owed settles e);
+written_causes asked run owed besides ends_run refused failed no_disk no_shelf last door reads caused = record {
+  two = λ e. refused (words_refused besides run.readers run.sink_before run.sink_after run.status owed ends_run e);
   besides = besides;
-  faults = faults_have_causes besides run.readers run.sink_before run.sink_after run.status owed settles;
+  faults = faults_have_causes besides run.readers run.sink_before run.sink_after run.status owed ends_run;
   signer = ⊎_elim failed (λ closed. absurd (has_none closing.SignerFault refl run.readers reads closed));
   door = door;
   disk = ⊎_elim (λ some. absurd (no_disk some)) (λ closed. absurd (has_none closing.DiskFault refl run.readers reads closed));
@@ -66,10 +66,10 @@ written_causes asked run owed besides settles refused failed no_disk no_shelf la
 }
 
 -- one whose command neither refuses words nor has a signer
-plain_causes : (asked : Asked) (run : Run) (owed : Option (List ℕ)) (besides : Besides) → Settles owed besides run → (has unknown failed door : Bool)
+plain_causes : (asked : Asked) (run : Run) (owed : Option (List ℕ)) (besides : Besides) → EndsRun owed besides run → (has unknown failed door : Bool)
     → besides ≡ core_finds has unknown failed door → (failed ≡ true → VerifierRose run.readers) → (door ≡ true → DoorFails (Some asked) run)
     → some_serves run.readers ≡ false → AreCausedBy (Some asked) run → HasCauses (Some asked) run
-plain_causes asked run owed besides settles has unknown failed door e last door_fails reads caused = written_causes (Some asked) run owed besides settles
+plain_causes asked run owed besides ends_run has unknown failed door e last door_fails reads caused = written_causes (Some asked) run owed besides ends_run
     (λ some. absurd (no (λ b. b.words_refused) refl some)) (λ some. absurd (no (λ b. b.signer_failed) refl some))
     (no (λ b. b.disk_failed) refl) (no (λ b. b.shelf_full) refl)
     (λ some. last (sym (ap (λ b. b.verifier_failed) e) ∙ some)) (λ some. door_fails (sym (ap (λ b. b.door_failed) e) ∙ some)) reads caused
@@ -234,18 +234,18 @@ unbegun_causes asked run u = record {
 }
 
 -- one over links, where there was no memory for their readers
-unseated_causes : (asked : Asked) (run : Run) (owed : Option (List ℕ)) (besides : Besides) → Settles owed besides run → (address : List ℕ) (count : ℕ) (came : LinksShown)
+unseated_causes : (asked : Asked) (run : Run) (owed : Option (List ℕ)) (besides : Besides) → EndsRun owed besides run → (address : List ℕ) (count : ℕ) (came : LinksShown)
     → AreUnseated address count came (work_in run owed besides) → came.door ≡ run.door → (DoorRose run → DoorFails (Some asked) run)
     → (run.readers ≡ [] → AreCausedBy (Some asked) run) → HasCauses (Some asked) run
-unseated_causes asked run owed besides settles address count came u door fails caused =
-    plain_causes asked run owed besides settles false false false came.failed u.nothing_else (λ e. absurd (not_true e))
+unseated_causes asked run owed besides ends_run address count came u door fails caused =
+    plain_causes asked run owed besides ends_run false false false came.failed u.nothing_else (λ e. absurd (not_true e))
     (λ e. fails (subst (λ d. MatchOption d (Rose run.before.faults run.after.faults) (λ x. Rose 0 x.faults)) door
     (door_rose _ (run.before.links address) count came.failed _ came.door (λ none. u.makes.rose (rw none refl)) u.taken.taken e)))
     (ap some_serves u.none_read) (caused u.none_read)
 
 carried_causes : {D : Type 0} (shown : D → DiskShown) (disk old : Option D) (asked : Option Asked) (run : Run) → run.disk ≡ disk_seen shown disk → run.old ≡ disk_seen shown old
     → CarriesOut shown disk old asked run → HasCauses asked run
-carried_causes shown disk old None run d o w = written_causes None run w.owed w.besides w.settles (λ refused. refl)
+carried_causes shown disk old None run d o w = written_causes None run w.owed w.besides w.ends_run (λ refused. refl)
     (λ some. absurd (refused_only (λ b. b.signer_failed) refl some)) (refused_only (λ b. b.disk_failed) refl) (refused_only (λ b. b.shelf_full) refl)
     (λ some. absurd (refused_only (λ b. b.verifier_failed) refl some)) (λ some. absurd (refused_only (λ b. b.door_failed) refl some))
     (rw w.does.idle.none_read refl) (rw w.does.idle.none_read tt)
@@ -253,48 +253,48 @@ carried_causes shown disk old None run d o w = written_causes None run w.owed w.
     refused_only : (finds : Besides → Bool) → finds (record nothing_besides { words_refused = true }) ≡ false → finds w.besides ≡ true → ⊥
     refused_only finds none some = finds_no finds w.besides (record nothing_besides { words_refused = true }) none w.does.nothing_else some
 carried_causes shown disk old (Some (check name)) run d o w = let work = work_in run w.owed w.besides in
-    plain_causes (check name) run w.owed w.besides w.settles false false false false w.does.nothing_else (λ e. absurd (not_true e)) (λ e. absurd (not_true e))
+    plain_causes (check name) run w.owed w.besides w.ends_run false false false false w.does.nothing_else (λ e. absurd (not_true e)) (λ e. absurd (not_true e))
     (check_serves name work w.does) (check_caused name work w.does)
 carried_causes shown disk old (Some (validate helper (named names))) run d o w = let work = work_in run w.owed w.besides in let over = w.does.over in
-    plain_causes (validate helper (named names)) run w.owed w.besides w.settles over.owes.is_found false (fails_last over.told.rest) false over.owes.nothing_else
+    plain_causes (validate helper (named names)) run w.owed w.besides w.ends_run over.owes.is_found false (fails_last over.told.rest) false over.owes.nothing_else
     (told_rose _ _ work over.told (files_unfailed _ helper names work over.told)) (λ e. absurd (not_true e))
     (told_serves _ _ work over.told) (files_caused _ helper names work over.told)
 carried_causes shown disk old (Some (validate helper (links address count))) run d o w = let work = work_in run w.owed w.besides in
     let at : LinksShown = record { door = run.door; sinks = run.sinks; failed = w.besides.door_failed } in elim w.does [
-      | inl is ↦ (let over = is.over in plain_causes (validate helper (links address count)) run w.owed w.besides w.settles over.owes.is_found false (fails_last over.told.rest) at.failed
+      | inl is ↦ (let over = is.over in plain_causes (validate helper (links address count)) run w.owed w.besides w.ends_run over.owes.is_found false (fails_last over.told.rest) at.failed
           over.owes.nothing_else (told_rose _ _ work over.told (linked_unfailed _ helper address count at work over.told)) (linked_door _ helper address count at work over.told)
           (told_serves _ _ work over.told) (linked_caused _ helper address count at work over.told))
-      | inr u ↦ unseated_causes (validate helper (links address count)) run w.owed w.besides w.settles address count at u refl (λ x. x) (λ e. rw e tt)
+      | inr u ↦ unseated_causes (validate helper (links address count)) run w.owed w.besides w.ends_run address count at u refl (λ x. x) (λ e. rw e tt)
     ]
 carried_causes shown disk old (Some (watch helper (named names))) run d o w = let work = work_in run w.owed w.besides in let over = w.does.over in
-    plain_causes (watch helper (named names)) run w.owed w.besides w.settles over.owes.is_found false (fails_last over.told.rest) false over.owes.nothing_else
+    plain_causes (watch helper (named names)) run w.owed w.besides w.ends_run over.owes.is_found false (fails_last over.told.rest) false over.owes.nothing_else
     (told_rose _ _ work over.told (files_unfailed _ helper names work over.told)) (λ e. absurd (not_true e))
     (told_serves _ _ work over.told) (files_caused _ helper names work over.told)
 carried_causes shown disk old (Some (watch helper (links address count))) run d o w = let work = work_in run w.owed w.besides in
     let at : LinksShown = record { door = run.door; sinks = run.sinks; failed = w.besides.door_failed } in elim w.does [
-      | inl is ↦ (let over = is.over in plain_causes (watch helper (links address count)) run w.owed w.besides w.settles over.owes.is_found false (fails_last over.told.rest) at.failed
+      | inl is ↦ (let over = is.over in plain_causes (watch helper (links address count)) run w.owed w.besides w.ends_run over.owes.is_found false (fails_last over.told.rest) at.failed
           over.owes.nothing_else (told_rose _ _ work over.told (linked_unfailed _ helper address count at work over.told)) (linked_door _ helper address count at work over.told)
           (told_serves _ _ work over.told) (linked_caused _ helper address count at work over.told))
-      | inr u ↦ unseated_causes (watch helper (links address count)) run w.owed w.besides w.settles address count at u refl (λ x. x) (λ e. rw e tt)
+      | inr u ↦ unseated_causes (watch helper (links address count)) run w.owed w.besides w.ends_run address count at u refl (λ x. x) (λ e. rw e tt)
     ]
 carried_causes shown disk old (Some (witness helper key shelf from inputs)) run d o w = witnessed_causes shown disk old helper key shelf from inputs run d o w
 carried_causes shown disk old (Some (export helper prefix names)) run d o w = let work = work_in run w.owed w.besides in let over = w.does in
-    plain_causes (export helper prefix names) run w.owed w.besides w.settles false over.owes.is_found (fails_last over.told.rest) false over.owes.nothing_else
+    plain_causes (export helper prefix names) run w.owed w.besides w.ends_run false over.owes.is_found (fails_last over.told.rest) false over.owes.nothing_else
     (told_rose _ _ work over.told (files_unfailed _ helper names work over.told)) (λ e. absurd (not_true e))
     (told_serves _ _ work over.told) (files_caused _ helper names work over.told)
 carried_causes shown disk old (Some (blame helper first second)) run d o w = let work = work_in run w.owed w.besides in
-    plain_causes (blame helper first second) run w.owed w.besides w.settles w.does.has_blames false (fails_last w.does.rest || fails_last w.does.other_rest) false w.does.nothing_else
+    plain_causes (blame helper first second) run w.owed w.besides w.ends_run w.does.has_blames false (fails_last w.does.rest || fails_last w.does.other_rest) false w.does.nothing_else
     (λ e. blamed_rose helper first second run.second work w.does (ap (λ b. b.verifier_failed) w.does.nothing_else ∙ e)) (λ e. absurd (not_true e))
     (blamed_serves helper first second run.second work w.does) (blamed_caused helper first second run.second work w.does)
 carried_causes shown disk old (Some (make helper plan log)) run d o w = let work = work_in run w.owed w.besides in
-    written_causes (Some (make helper plan log)) run w.owed w.besides w.settles (λ some. absurd (made_finds (λ b. b.words_refused) (λ s r. refl) (λ b f. refl) helper plan log work w.does some))
+    written_causes (Some (make helper plan log)) run w.owed w.besides w.ends_run (λ some. absurd (made_finds (λ b. b.words_refused) (λ s r. refl) (λ b f. refl) helper plan log work w.does some))
     (made_signer helper plan log work w.does) (made_finds (λ b. b.disk_failed) (λ s r. refl) (λ b f. refl) helper plan log work w.does)
     (made_finds (λ b. b.shelf_full) (λ s r. refl) (λ b f. refl) helper plan log work w.does) (made_rose helper plan log work w.does)
     (made_finds (λ b. b.door_failed) (λ s r. refl) (λ b f. refl) helper plan log work w.does)
     (made_serves helper plan log work w.does) (made_caused helper plan log work w.does)
 carried_causes shown disk old (Some (convert domain name)) run d o c = converted_causes domain name run c
 carried_causes shown disk old (Some (generate seed logs events)) run d o w = let work = work_in run w.owed w.besides in
-    plain_causes (generate seed logs events) run w.owed w.besides w.settles false false false false w.does.nothing_else (λ e. absurd (not_true e)) (λ e. absurd (not_true e))
+    plain_causes (generate seed logs events) run w.owed w.besides w.ends_run false false false false w.does.nothing_else (λ e. absurd (not_true e)) (λ e. absurd (not_true e))
     (generated_serves seed logs events work w.does) (generated_caused seed logs events work w.does)
 carried_causes shown disk old (Some rehearse) run d o r = rehearsed_causes run r
 

@@ -15,7 +15,7 @@ use Rattle.run_status.specs.declared.run_status.close.Close.{Close}
 use Rattle.run_status.specs.declared.run_status.close.Close.TheVariants.{OutOfMemory}
 use Rattle.run_status.specs.RunStatus.Readers.{Reader, reader_seen}
 use Rattle.keri_outside.specs.Shown.{SinkShown}
-use Rattle.run_status.specs.RunRecord.Run.{DoorShown, Run, Settles, SignerShown}
+use Rattle.run_status.specs.RunRecord.Run.{DoorShown, Run, EndsRun, SignerShown}
 use Rattle.run_status.specs.RunRecord.Seen.{door_seen, signer_seen, sinks_seen}
 use Rattle.keri_roles.specs.declared.core_roles.outcome.LinkedOutcome.{LinkedOutcome}
 use Rattle.keri_roles.specs.declared.core_roles.outcome.Outcome.{Outcome}
@@ -89,4 +89,4 @@ module _ {O S V : Type 0} (left : S → Option (List ℕ)) (faults : S → ℕ) 
 
 -- what the outcome of a command owes was written, and the status is by what it found
 abbrev pub IsFinished : {S V : Type 0} → Outcome S V → Run → Type 0
-IsFinished outcome run = Settles (option_map (λ text. text.items) outcome.owed) outcome.besides run
+IsFinished outcome run = EndsRun (option_map (λ text. text.items) outcome.owed) outcome.besides run

@@ -11,7 +11,7 @@ use Rattle.cesr_binary.specs.Mixed.{StandMixed, MixedItems}
 use Rattle.run_status.specs.declared.run_status.close.Close.{Close}
 use Rattle.run_status.specs.declared.run_status.close.Close.TheVariants.{OutOfMemory}
 use Rattle.keri_outside.specs.Shown.{SourceShown, SinkShown}
-use Rattle.run_status.specs.RunStatus.Settling.{Puts}
+use Rattle.run_status.specs.RunStatus.RunEnds.{Puts}
 use Rattle.keri_roles.specs.declared.item_conversion.conversion.Conversion.{Conversion}
 use Rattle.keri_roles.specs.ItemConversion.Closes.{Bounds, Taken, ClosesBy, rest_judged}
 use Rattle.keri_roles.specs.ItemConversion.Progress.{text_in}

@@ -13,7 +13,7 @@ use Rattle.cesr_binary.specs.MixedAnswers.{judged}
 use Rattle.cesr_binary.specs.Wire.{item_in}
 use Rattle.keri_roles.specs.declared.item_conversion.converter.Converter.{Converter}
 use Rattle.keri_outside.specs.Shown.{SinkShown, sink_shown}
-use Rattle.run_status.specs.RunStatus.Settling.{Puts}
+use Rattle.run_status.specs.RunStatus.RunEnds.{Puts}
 
 -- the text of the items in a domain, one after the other
 abbrev pub text_in : Domain → List Placed → List ℕ

@@ -22,7 +22,7 @@ use Rattle.keri_roles.specs.KeriRoles.Made.{IsMade}
 use Rattle.run_status.specs.RunRecord.NoJournal.{no_journal}
 use Rattle.keri_roles.specs.KeriRoles.Rehearsed.{IsRehearsed}
 use Rattle.run_status.specs.RunStatus.Readers.{Reader}
-use Rattle.run_status.specs.RunRecord.Run.{HasNoLinks, Run, Settles}
+use Rattle.run_status.specs.RunRecord.Run.{HasNoLinks, Run, EndsRun}
 use Rattle.keri_roles.specs.CoreRoles.Work.{LinksShown, Work, work_in}
 use Rattle.run_status.specs.RunStatus.Status.{nothing_besides}
 use Rattle.shelf_log.specs.KeriDisk.Images.{DiskShown}
@@ -59,7 +59,7 @@ pub record IsWritten (Does : Work → Type 0) (run : Run) : Type 0 where
   pub owed : Option (List ℕ)
   pub besides : Besides
   pub does : Does (work_in run owed besides)
-  pub settles : Settles owed besides run
+  pub ends_run : EndsRun owed besides run
   pub no_disk : run.disk ≡ None
   pub no_old : run.old ≡ None
   pub no_links : HasNoLinks run
@@ -69,7 +69,7 @@ pub record IsLinked (Does : LinksShown → Work → Type 0) (run : Run) : Type 0
   pub owed : Option (List ℕ)
   pub besides : Besides
   pub does : Does (record { door = run.door; sinks = run.sinks; failed = besides.door_failed }) (work_in run owed besides)
-  pub settles : Settles owed besides run
+  pub ends_run : EndsRun owed besides run
   pub no_disk : run.disk ≡ None
   pub no_old : run.old ≡ None
 

@@ -10,7 +10,7 @@ use Rattle.run_status.specs.declared.run_status.close.Close.{Close}
 use Rattle.run_status.specs.declared.run_status.close.Close.TheVariants.{End, Bad, ReadFault, VerifierFault, SignerFault, DiskFault, WriteFault, Malformed, LimitReached, OutOfMemory}
 use Rattle.run_status.specs.RunStatus.Readers.{Reader}
 use Rattle.keri_outside.specs.Shown.{SourceShown, SinkShown}
-use Rattle.run_status.specs.RunStatus.Settling.{found}
+use Rattle.run_status.specs.RunStatus.RunEnds.{found}
 use Rattle.run_status.specs.RunStatus.Status.{nothing_besides, status_of}
 use Rattle.run_status.specs.RunRecord.NoJournal.{no_journal}
 use Rattle.keri_roles.specs.KeriRoles.Rehearsed.{Serving}

@@ -26,7 +26,7 @@ use Rattle.run_status.specs.declared.run_status.close.Close.{Close}
 use Rattle.run_status.specs.declared.run_status.close.Close.TheVariants.{End, ReadFault, LimitReached, OutOfMemory}
 use Rattle.run_status.specs.RunStatus.Readers.{Reader}
 use Rattle.keri_outside.specs.Shown.{SourceShown}
-use Rattle.run_status.specs.RunStatus.Settling.{refuses}
+use Rattle.run_status.specs.RunStatus.RunEnds.{refuses}
 use Rattle.run_status.specs.RunStatus.Status.{nothing_besides}
 use Rattle.reader_hub.specs.ReaderThreads.Given.{Given}
 use Rattle.reader_hub.specs.declared.reader_threads.last_round.LastRound.{LastRound}

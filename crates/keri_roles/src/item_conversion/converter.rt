@@ -1,7 +1,7 @@
 //! Items between a source and a sink.
 ghost use Rattle.std.specs.Prelude.{◌≡◌, ◌+◌, ◌<◌, ◌^◌, ◌++◌, List, ℕ, None, IfOk, IfErr, length};
 ghost use Rattle.keri_outside.specs.Shown.{SinkShown, sink_shown};
-ghost use Rattle.run_status.specs.RunStatus.Settling.{Puts};
+ghost use Rattle.run_status.specs.RunStatus.RunEnds.{Puts};
 ghost use Rattle.cesr_stream.specs.Written.{IsWritable};
 ghost use Rattle.cesr_binary.specs.Wire.{item_in};
 ghost use Rattle.keri_roles.specs.ItemConversion.Progress.{GoesOn, IsIdle, StandsAt, progress_of};

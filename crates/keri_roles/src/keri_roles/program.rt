@@ -22,7 +22,7 @@ use crate::keri_roles::{Done, ReaderEnd, Runs};
 use command_words::{Command, Inputs, Links, command_of};
 use keri_outside::Door;
 use report_lines::WORDS;
-use run_status::{Besides, NO_MEMORY, Outside, nothing_told, settle};
+use run_status::{Besides, NO_MEMORY, Outside, end_run, nothing_told};
 use std::alloc::{AllocError, Global};
 use std::sync::Wait;
 use std::thread::Threads;
@@ -265,7 +265,7 @@ fn finish<O: Outside>(
         owed,
         besides,
     } = outcome;
-    let status = settle(outside, text_of(&owed), besides, readers.as_slice());
+    let status = end_run(outside, text_of(&owed), besides, readers.as_slice());
     Done {
         status,
         journal,
@@ -377,7 +377,7 @@ fn refuse<O: Outside>(alloc: Global, outside: &mut O) -> Done<O>
         ..Besides::nothing()
     };
     let readers = Vec::new(alloc);
-    let status = settle(outside, Some(WORDS.as_bytes()), besides, readers.as_slice());
+    let status = end_run(outside, Some(WORDS.as_bytes()), besides, readers.as_slice());
     Done {
         status,
         journal: nothing_told(alloc),

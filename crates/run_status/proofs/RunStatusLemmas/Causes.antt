@@ -7,7 +7,7 @@ use Rattle.run_status.specs.declared.run_status.close.Close.{Close}
 use Rattle.run_status.specs.declared.run_status.close.Close.TheVariants.{End, Bad, ReadFault, VerifierFault, SignerFault, DiskFault, WriteFault, Malformed, LimitReached, OutOfMemory}
 use Rattle.run_status.specs.RunStatus.Readers.{Reader, HasClose, close_found}
 use Rattle.keri_outside.specs.Shown.{SinkShown}
-use Rattle.run_status.specs.RunStatus.Settling.{found, SettlesBy, Puts, FaultsHaveCauses}
+use Rattle.run_status.specs.RunStatus.RunEnds.{found, EndsRunBy, Puts, FaultsHaveCauses}
 use Rattle.run_status.specs.RunStatus.Status.{status_of}
 
 -- a status is that of the first cause
@@ -162,7 +162,7 @@ six_closed besides readers status s e = elim (closed_or (λ c. (close_found c).s
 ]
 
 module _ (besides : Besides) (readers : List Reader) (old new : SinkShown) (status : ℕ) where
-  pub words_refused : (owed : Option (List ℕ)) → SettlesBy owed besides readers old new status → status ≡ 2 → besides.words_refused ≡ true
+  pub words_refused : (owed : Option (List ℕ)) → EndsRunBy owed besides readers old new status → status ≡ 2 → besides.words_refused ≡ true
   words_refused None s e = let clash : 10 ≡ 2 = sym s.0 ∙ e in cc
   words_refused (Some text) s e = by_two _ _ _ _ _ _ _ _ (sym s.2 ∙ e)
 
@@ -197,7 +197,7 @@ module _ (besides : Besides) (readers : List Reader) (old new : SinkShown) (stat
   ]
 
   -- each fault that is answered has its cause
-  pub faults_have_causes : (owed : Option (List ℕ)) → SettlesBy owed besides readers old new status → FaultsHaveCauses readers besides old new status
+  pub faults_have_causes : (owed : Option (List ℕ)) → EndsRunBy owed besides readers old new status → FaultsHaveCauses readers besides old new status
   faults_have_causes None s = record {
     five = λ e. let clash : 10 ≡ 5 = sym s.0 ∙ e in cc;
     seven = λ e. let clash : 10 ≡ 7 = sym s.0 ∙ e in cc;

@@ -15,7 +15,7 @@ use Rattle.run_status.specs.declared.run_status.close.Close.TheVariants.{End, Ba
 use Rattle.run_status.specs.declared.run_status.besides.Besides.{Besides}
 use Rattle.run_status.specs.RunStatus.Readers.{HasClose, Reader, VerifierShown}
 use Rattle.keri_outside.specs.Shown.{SinkShown}
-use Rattle.run_status.specs.RunStatus.Settling.{FaultsHaveCauses, SettlesBy}
+use Rattle.run_status.specs.RunStatus.RunEnds.{FaultsHaveCauses, EndsRunBy}
 
 -- what a signer tells: the signatures that it gives, what it was asked, and how often it has failed
 pub record SignerShown : Type 0 where
@@ -207,5 +207,5 @@ HasNoSecond _ back = back ≡ None
 abbrev pub asked_in : {Z : Type 0} → List (String Z) → Option Asked
 asked_in words = asks (map string_bytes words)
 
-abbrev pub Settles : Option (List ℕ) → Besides → Run → Type 0
-Settles owed besides run = SettlesBy owed besides run.readers run.sink_before run.sink_after run.status
+abbrev pub EndsRun : Option (List ℕ) → Besides → Run → Type 0
+EndsRun owed besides run = EndsRunBy owed besides run.readers run.sink_before run.sink_after run.status

@@ -2,7 +2,7 @@
 ghost use Rattle.std.specs.Prelude.{◌≡◌};
 ghost use Rattle.std.specs.List.{list_any};
 ghost use Rattle.run_status.specs.RunStatus.Readers.{close_found};
-ghost use Rattle.run_status.specs.RunStatus.Settling.{refuses, saw_another};
+ghost use Rattle.run_status.specs.RunStatus.RunEnds.{refuses, saw_another};
 
 use crate::run_status::{Close, ReaderEnd};
 

@@ -19,7 +19,7 @@ pub struct ReaderEnd<S, V> {
 }
 
 impl<S, V> ReaderEnd<S, V> {
-    ghost use Rattle.run_status.specs.RunStatus.Settling.{refuses, saw_another};
+    ghost use Rattle.run_status.specs.RunStatus.RunEnds.{refuses, saw_another};
 
     /// Whether it refused its stream or a message.
     pub fn is_refused(&self) -> bool

@@ -3,8 +3,8 @@ ghost use Rattle.std.specs.Prelude.{◌≡◌, false, map};
 ghost use Rattle.std.specs.Option.{option_copied};
 ghost use Rattle.run_status.specs.RunStatus.Readers.{reader_seen};
 ghost use Rattle.keri_outside.specs.Shown.{sink_shown};
-ghost use Rattle.run_status.specs.RunStatus.Settling.{Puts, SettlesBy};
-ghost use Rattle.run_status.specs.RunStatus.Settling as settling;
+ghost use Rattle.run_status.specs.RunStatus.RunEnds.{Puts, EndsRunBy};
+ghost use Rattle.run_status.specs.RunStatus.RunEnds as run_ends;
 ghost use Rattle.run_status.specs.RunStatus.Status.{status_of};
 
 use crate::run_outside::Outside;
@@ -18,13 +18,13 @@ use keri_outside::{Sink, Source, Verifier};
 
 /// Writes the text, unless there was no memory for it, and answers the status: by that, by the readers' ends, and by what was
 /// found besides.
-pub fn settle<O: Outside>(
+pub fn end_run<O: Outside>(
     outside: &mut O,
     owed: Option<&[u8]>,
     besides: Besides,
     readers: &[ReaderEnd<O::Source, O::Verifier>],
 ) -> u8
-    ensures settles { SettlesBy (option_copied owed.entry) besides
+    ensures ends_run { EndsRunBy (option_copied owed.entry) besides
         (map (reader_seen O.Source.left O.Source.faults O.Verifier.says O.Verifier.inquiries O.Verifier.faults)
         readers.now)
         (sink_shown O.Sink.written O.Sink.faults (O.sink outside.old))
@@ -40,7 +40,7 @@ pub fn settle<O: Outside>(
 
 /// The status of a run that owes nothing more: by its readers' ends, and by what was found besides.
 pub fn status_by<O: Outside>(besides: Besides, readers: &[ReaderEnd<O::Source, O::Verifier>]) -> u8
-    ensures { result ≡ status_of (settling.found besides
+    ensures { result ≡ status_of (run_ends.found besides
         (map (reader_seen O.Source.left O.Source.faults O.Verifier.says O.Verifier.inquiries O.Verifier.faults)
         readers.now) false) }
 {
@@ -65,7 +65,7 @@ fn found<S: Source, V: Verifier>(
     readers: &[ReaderEnd<S, V>],
     sink_failed: bool,
 ) -> Findings
-    ensures { result ≡ settling.found besides
+    ensures { result ≡ run_ends.found besides
         (map (reader_seen S.left S.faults V.says V.inquiries V.faults) readers.now) sink_failed }
 {
     Findings {

@@ -16,7 +16,7 @@ use Rattle.run_status.specs.declared.run_status.close.Close.{Close}
 use Rattle.run_status.specs.declared.run_status.close.Close.TheVariants as closing
 use Rattle.run_status.specs.RunStatus.Readers.{HasClose, Reader}
 use Rattle.keri_outside.specs.Shown.{SinkShown}
-use Rattle.run_status.specs.RunStatus.Settling.{SettlesBy, found}
+use Rattle.run_status.specs.RunStatus.RunEnds.{EndsRunBy, found}
 use Rattle.run_status.specs.RunStatus.Status.{nothing_besides, status_of}
 use Rattle.run_status.proofs.RunStatusLemmas.Causes.{faults_have_causes, six_closed, words_refused}
 use Rattle.witness_core.specs.WitnessOpening.Found.{found_by}
@@ -44,9 +44,9 @@ unread_causes : (helper : List ℕ) (key : Key) (shelf : List ℕ) (from : Optio
     → (besides.door_failed ≡ true → ⊥) → (besides.verifier_failed ≡ true → ⊥) → (besides.disk_failed ≡ true → Rose run.before.faults run.after.faults ⊎ DiskRose run.disk ⊎ DiskRose run.old)
     → HasCauses (Some (witness helper key shelf from input)) run
 unread_causes helper key shelf from input no_memory text besides run u words signer door verifier disk = record {
-  two = λ e. absurd (words (words_refused besides run.readers run.sink_before run.sink_after run.status u.owed u.settles e));
+  two = λ e. absurd (words (words_refused besides run.readers run.sink_before run.sink_after run.status u.owed u.ends_run e));
   besides = besides;
-  faults = faults_have_causes besides run.readers run.sink_before run.sink_after run.status u.owed u.settles;
+  faults = faults_have_causes besides run.readers run.sink_before run.sink_after run.status u.owed u.ends_run;
   signer = ⊎_elim (λ failed. absurd (signer failed)) (λ closed. absurd (subst (HasClose closing.SignerFault) u.none_read closed));
   door = λ e. absurd (door e);
   disk = ⊎_elim disk (λ closed. absurd (subst (HasClose closing.DiskFault) u.none_read closed));
@@ -119,10 +119,10 @@ after_none None = refl
 after_none (Some written) = ap Some (sym (append-nil written))
 
 -- the status of readers is as where nothing more was owed
-closing_settles : (out : Bool) (besides : Besides) (readers : List Reader) (sink : SinkShown) (status : ℕ) → status ≡ (if out then 10 else status_of (found besides readers false))
-    → SettlesBy (if out then None else Some []) besides readers sink sink status
-closing_settles true besides readers sink status e = (e, refl)
-closing_settles false besides readers sink status e = (false, (after_none sink.written, refl), e)
+closing_ends_run : (out : Bool) (besides : Besides) (readers : List Reader) (sink : SinkShown) (status : ℕ) → status ≡ (if out then 10 else status_of (found besides readers false))
+    → EndsRunBy (if out then None else Some []) besides readers sink sink status
+closing_ends_run true besides readers sink status e = (e, refl)
+closing_ends_run false besides readers sink status e = (false, (after_none sink.written, refl), e)
 
 closing_six : (out : Bool) (besides : Besides) (readers : List Reader) (status : ℕ) → status ≡ (if out then 10 else status_of (found besides readers false)) → status ≡ 6 → HasClose closing.WriteFault readers
 closing_six true besides readers status s e = let clash : 10 ≡ 6 = sym s ∙ e in cc
@@ -161,7 +161,7 @@ module _ {D : Type 0} (shown : D → DiskShown) where
     unstarted first list middle u =
         let it = u.unread in
         let unread : IsUnread (u.fault ≡ NoMemory) (start_text u.fault) (start_found u.fault) run =
-        record { none_read = it.none_read; none_told = it.none_told; no_signer = it.no_signer; no_links = record { no_door = it.no_links.no_door; no_sinks = it.no_links.no_sinks }; owed = it.owed; line = it.line; settles = it.settles } in
+        record { none_read = it.none_read; none_told = it.none_told; no_signer = it.no_signer; no_links = record { no_door = it.no_links.no_door; no_sinks = it.no_links.no_sinks }; owed = it.owed; line = it.line; ends_run = it.ends_run } in
         unread_causes helper key shelf from input _ _ (start_found u.fault) run unread (starting_words u.fault) (starting_signer u.fault) (starting_door u.fault) (starting_verifier u.fault)
         (λ e. absurd (starting_disk u.fault e))
 
@@ -172,13 +172,13 @@ module _ {D : Type 0} (shown : D → DiskShown) where
         let reader = s.reader in
         let ends = s.ends in
         let out = list_any (λ r. is_out r.close) run.readers in
-        let settles = closing_settles out nothing_besides run.readers run.sink_after run.status ends.status in
-        let causes = faults_have_causes nothing_besides run.readers run.sink_after run.sink_after run.status _ settles in
+        let ends_run = closing_ends_run out nothing_besides run.readers run.sink_after run.status ends.status in
+        let causes = faults_have_causes nothing_besides run.readers run.sink_after run.sink_after run.status _ ends_run in
         let here : Run = record run { before = middle } in
         let wrote = serving_wrote shown key run.before.limits helper name first s.new reader here reader.source reader.verifier run.signer s.serves in
         let one : (at : Close) → HasClose at run.readers → reader.close ≡ at = λ at closed. closed_one at reader (subst (HasClose at) ends.all closed) in
         record {
-          two = λ e. absurd (not_true (words_refused nothing_besides run.readers run.sink_after run.sink_after run.status _ settles e));
+          two = λ e. absurd (not_true (words_refused nothing_besides run.readers run.sink_after run.sink_after run.status _ ends_run e));
           besides = nothing_besides;
           faults = record {
             five = causes.five;
@@ -212,12 +212,12 @@ module _ {D : Type 0} (shown : D → DiskShown) where
         let ends = s.ends in
         let besides : Besides = record nothing_besides { door_failed = s.failed } in
         let out = list_any (λ r. is_out r.close) run.readers in
-        let settles = closing_settles out besides run.readers run.sink_after run.status ends.status in
-        let causes = faults_have_causes besides run.readers run.sink_after run.sink_after run.status _ settles in
+        let ends_run = closing_ends_run out besides run.readers run.sink_after run.status ends.status in
+        let causes = faults_have_causes besides run.readers run.sink_after run.sink_after run.status _ ends_run in
         let here : Run = record run { before = middle } in
         let closed_in : (at : Close) → HasClose at run.readers → HasClose at s.readers = λ at closed. subst (HasClose at) ends.all closed in
         record {
-          two = λ e. absurd (not_true (words_refused besides run.readers run.sink_after run.sink_after run.status _ settles e));
+          two = λ e. absurd (not_true (words_refused besides run.readers run.sink_after run.sink_after run.status _ ends_run e));
           besides = besides;
           faults = record {
             five = causes.five;

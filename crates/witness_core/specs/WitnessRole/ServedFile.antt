@@ -21,7 +21,7 @@ use Rattle.run_status.specs.declared.run_status.reader_end.ReaderEnd.{ReaderEnd}
 use Rattle.run_status.specs.declared.run_status.close.Close.TheVariants.{ReadFault, VerifierFault, SignerFault}
 use Rattle.run_status.specs.RunStatus.Readers.{Reader, VerifierShown}
 use Rattle.keri_outside.specs.Shown.{SinkShown, SourceShown, source_of}
-use Rattle.run_status.specs.RunStatus.Settling.{found}
+use Rattle.run_status.specs.RunStatus.RunEnds.{found}
 use Rattle.run_status.specs.RunStatus.Status.{nothing_besides, status_of}
 use Rattle.shelf_log.specs.ShelfLog.Format.{Holds}
 use Rattle.shelf_log.specs.ShelfLog.OnDisk.{AllHold}

@@ -26,7 +26,7 @@ use Rattle.witness_core.specs.declared.witness_opening.fault.OpeningFault.{Openi
 use Rattle.witness_core.specs.WitnessLink.Stored.{IsLawfulList}
 use Rattle.witness_core.specs.declared.witness_opening.fault.OpeningFault.TheVariants.{OutOfMemory as NoMemory}
 use Rattle.run_status.specs.RunRecord.NoJournal.{no_journal}
-use Rattle.run_status.specs.RunRecord.Run.{HasNoLinks, Run, Settles}
+use Rattle.run_status.specs.RunRecord.Run.{HasNoLinks, Run, EndsRun}
 use Rattle.witness_core.specs.WitnessLink.Links.{Left}
 use Rattle.witness_core.specs.WitnessRole.ServedFile.{IsServing}
 use Rattle.witness_core.specs.WitnessRole.ServedLinks.{IsServingLinks}
@@ -55,7 +55,7 @@ pub record IsUnread (no_memory : Type 0) (text : List ℕ) (besides : Besides) (
   pub no_links : HasNoLinks run
   pub owed : Option (List ℕ)
   pub line : IfSome owed (λ t. (no_memory → ⊥) × (t ≡ text))
-  pub settles : Settles owed besides run
+  pub ends_run : EndsRun owed besides run
 
 -- there is no shelf, for this reason
 abbrev pub IsUnopened : OpeningFault → Run → Type 0

@@ -24,7 +24,7 @@ pub enum OpeningFault {
 impl OpeningFault {
     ghost use Rattle.std.specs.Prelude.{[], false, IfOk, string_bytes};
     ghost use Rattle.shelf_log.specs.declared.shelf_log.fault.ShelfFault.TheVariants.{Broken};
-    ghost use Rattle.run_status.specs.RunStatus.Settling.{found as all_found};
+    ghost use Rattle.run_status.specs.RunStatus.RunEnds.{found as all_found};
     ghost use Rattle.run_status.specs.RunStatus.Status.{status_of};
     ghost use Rattle.witness_core.specs.WitnessOpening.Answers.{not_a_shelf, refusal};
     ghost use Rattle.witness_core.specs.WitnessOpening.Found.{found_by, status_by, text_of};

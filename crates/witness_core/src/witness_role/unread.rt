@@ -1,9 +1,9 @@
 //! A run that reads nothing, since there is no shelf, or no witness that starts from it.
 ghost use Rattle.std.specs.Prelude.{◌≡◌, [], None, option_map, string_bytes};
 ghost use Rattle.run_status.specs.RunRecord.NoJournal.{no_journal};
-ghost use Rattle.run_status.specs.RunRecord.Run.{Settles};
+ghost use Rattle.run_status.specs.RunRecord.Run.{EndsRun};
 
-use run_status::{Besides, Done, Outside, ReaderEnd, Runs, nothing_told, settle};
+use run_status::{Besides, Done, Outside, ReaderEnd, Runs, end_run, nothing_told};
 use std::alloc::Global;
 
 /// Writes the line of why nothing is read, unless there was no memory for it, and hands back the disks.
@@ -25,11 +25,11 @@ pub(crate) fn unread<O: Outside>(
     ensures door { result.door ≡ None }
     ensures sinks { result.sinks.items ≡ [] }
     ensures no_second { result.second ≡ None }
-    ensures settles { Settles (option_map string_bytes line) besides
+    ensures ends_run { EndsRun (option_map string_bytes line) besides
         (⟦<O as Runs>⟧.run outside.old outside.new result) }
     ensures shown { O.shown outside.new ≡ O.shown outside.old }
 {
-    let status = settle(outside, bytes_of(&line), besides, readers.as_slice());
+    let status = end_run(outside, bytes_of(&line), besides, readers.as_slice());
     Done {
         status,
         journal: nothing_told(alloc),

@@ -12,7 +12,7 @@ returns-in_ok-outcome-in-Make-clause-does g c = rw (c.in-Make.is, c.finish-in-Ma
   owed = option_map (λ text. text.items) c.in_ok-outcome-in-Make.outcome.outcome.owed;
   besides = c.in_ok-outcome-in-Make.outcome.outcome.besides;
   does = c.in_ok-outcome-in-Make.ensures.made;
-  settles = rw (c.finish-in-Make.ensures.readers, c.in_ok-outcome-in-Make.ensures.sink) at c.finish-in-Make.ensures.finished;
+  ends_run = rw (c.finish-in-Make.ensures.readers, c.in_ok-outcome-in-Make.ensures.sink) at c.finish-in-Make.ensures.finished;
   no_disk = refl;
   no_old = refl;
   no_links = record { no_door = refl; no_sinks = refl };
@@ -23,7 +23,7 @@ returns-in_ok-outcome-in-Generate-clause-does g c = rw (c.in-Generate.is, c.fini
   owed = option_map (λ text. text.items) c.in_ok-outcome-in-Generate.outcome.owed;
   besides = c.in_ok-outcome-in-Generate.outcome.besides;
   does = c.in_ok-outcome-in-Generate.ensures.generated;
-  settles = rw (c.finish-in-Generate.ensures.readers, c.unsigned-in-Generate.ensures, c.in_ok-outcome-in-Generate.ensures.same) at c.finish-in-Generate.ensures.finished;
+  ends_run = rw (c.finish-in-Generate.ensures.readers, c.unsigned-in-Generate.ensures, c.in_ok-outcome-in-Generate.ensures.same) at c.finish-in-Generate.ensures.finished;
   no_disk = refl;
   no_old = refl;
   no_links = record { no_door = refl; no_sinks = refl };
@@ -34,7 +34,7 @@ returns-in_ok-rival-in-Blame-clause-does g c = rw (c.in-Blame.is, c.finish_rival
   owed = option_map (λ text. text.items) c.in_ok-rival-in-Blame.rival.outcome.owed;
   besides = c.in_ok-rival-in-Blame.rival.outcome.besides;
   does = c.in_ok-rival-in-Blame.ensures.blamed;
-  settles = rw (c.finish_rival.ensures.readers, c.in_ok-rival-in-Blame.ensures.sink) at c.finish_rival.ensures.finished;
+  ends_run = rw (c.finish_rival.ensures.readers, c.in_ok-rival-in-Blame.ensures.sink) at c.finish_rival.ensures.finished;
   no_disk = refl;
   no_old = refl;
   no_links = record { no_door = refl; no_sinks = refl };

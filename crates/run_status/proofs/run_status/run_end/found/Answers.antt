@@ -1,7 +1,7 @@
 use Rattle.std.proofs.Common.{◌≡◌, Bool, List, [], ◌∷◌, ◌||◌, map, refl, ap}
 use Rattle.std.specs.List.{list_any}
 use Rattle.run_status.specs.RunStatus.Readers.{close_found, reader_seen}
-use Rattle.run_status.specs.RunStatus.Settling.{refuses, saw_another}
+use Rattle.run_status.specs.RunStatus.RunEnds.{refuses, saw_another}
 use Rattle.run_status.proofs.run_status.run_end.found.Goals as goal
 
 -- whether a test holds of some value that is seen

@@ -16,5 +16,5 @@ returns-clause-unopened g c = record {
   no_links = record { no_door = rw c.unread.ensures.door refl; no_sinks = rw c.unread.ensures.sinks refl };
   owed = option_map string_bytes c.ok-line.result;
   line = rw c.ok-line.ensures.value (of_text string_bytes _ c.text.result c.text.ensures);
-  settles = rw c.found.ensures.found at c.unread.ensures.settles;
+  ends_run = rw c.found.ensures.found at c.unread.ensures.ends_run;
 }

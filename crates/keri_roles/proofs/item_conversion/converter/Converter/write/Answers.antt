@@ -1,6 +1,6 @@
 use Rattle.std.proofs.Common.{◌++◌, sym, subst}
 use Rattle.keri_outside.specs.Shown.{sink_shown}
-use Rattle.run_status.specs.RunStatus.Settling.{Puts}
+use Rattle.run_status.specs.RunStatus.RunEnds.{Puts}
 use Rattle.cesr_binary.specs.Wire.{item_in}
 use Rattle.keri_roles.proofs.ItemConversionLemmas.Steps.{put_on, put_no_more}
 use Rattle.keri_roles.proofs.item_conversion.converter.Converter.write.Goals as goal

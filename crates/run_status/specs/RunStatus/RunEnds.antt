@@ -46,9 +46,9 @@ Puts text false old new = (new.written ≡ after old.written text) × (new.fault
 Puts text true old new = ((n : ℕ) × (new.written ≡ after old.written (take n text))) × Rose old.faults new.faults
 
 -- There was no memory, and nothing is put; or the text is, and the status is by what is found.
-abbrev pub SettlesBy : Option (List ℕ) → Besides → List Reader → SinkShown → SinkShown → ℕ → Type 0
-SettlesBy None besides readers old new status = (status ≡ 10) × (new ≡ old)
-SettlesBy (Some text) besides readers old new status =
+abbrev pub EndsRunBy : Option (List ℕ) → Besides → List Reader → SinkShown → SinkShown → ℕ → Type 0
+EndsRunBy None besides readers old new status = (status ≡ 10) × (new ≡ old)
+EndsRunBy (Some text) besides readers old new status =
     (sink_failed : Bool) × Puts text sink_failed old new × (status ≡ status_of (found besides readers sink_failed))
 
 -- Each fault that is answered has its cause: a reader closed by it, or it was found besides, or it is the sink's, whose count
