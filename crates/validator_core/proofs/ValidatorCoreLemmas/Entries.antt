@@ -7,7 +7,7 @@ use Rattle.validator_core.specs.Acceptance.ReadyRuns.{RunsOver}
 use Rattle.validator_core.specs.Acceptance.Standing.{Comes, IsStanding, told_of}
 use Rattle.validator_core.proofs.AcceptanceLemmas.Entries.{told_front}
 use Rattle.claim_table.specs.CoreLaws.Entries.{HaveNamed}
-use Rattle.claim_table.proofs.CoreLawsLemmas.Entries.{all_from, entry_accepts}
+use Rattle.claim_table.proofs.CoreLawsLemmas.Entries.{all_from, entry_settles}
 use Rattle.cesr_codes.specs.declared.key.Key.{Key}
 use Rattle.cesr_codes.specs.declared.sig.Sig.{Sig}
 use Rattle.validator_core.specs.Tables.View.{View, log_of}
@@ -31,7 +31,7 @@ accepts_to mode base told t ts held log end due told_is held_is log_is named run
     let run3 = subst (λ l. RunsOver mode (told ++ t ∷ []) (bodies base (told ++ t ∷ [])) due l end) log_is run2 in
     let named1 = subst (λ h. HaveNamed h log t due) held_is named in
     let named2 = subst (λ l. HaveNamed (bodies base (told ++ t ∷ [])) l t due) log_is named1 in
-    entry_accepts mode base told t due end named2 run3
+    entry_settles mode base told t due end named2 run3
 
 -- COMES: what the tables with an entry tell, and what they accept
 module _ (old new : View) (stands : IsStanding old) (more : List Body) (e : Entry) (comes : Comes more e old new) (t : Told) (is : whole (old.held ++ more) e ≡ Some t) where
