@@ -8,11 +8,9 @@ use cesr_codes::Prefix;
 use cesr_stream::Message;
 use journal::Mode;
 use keri_outside::{Limits, Rehearsal, Verifier};
-use key_state::KeyState;
 use reader_hub::{Asked, Extent, Hub, Pass};
 use rows::{Row, message_of};
 use std::alloc::{AllocError, Global};
-use std::fmt::Write;
 use std::sync::Wait;
 use validator_core::Core;
 
@@ -27,109 +25,42 @@ fn untold(alloc: Global) -> Core
     Core::new(alloc, Mode::Full, Limits::standard())
 }
 
-// Says what becomes of the rehearsal's verdict on a question.
-fn answer_one<W: Wait>(
-    rt: &W,
-    hub: &Hub,
-    pass: &mut Pass,
-    asked: Asked,
-    text: &mut String,
-) -> Result<(), AllocError>
+// The body's number and the key of an open question, and what becomes of the rehearsal's verdict on it.
+fn asked<W: Wait>(rt: &W, alloc: Global, hub: &Hub, pass: &mut Pass) -> Result<String, AllocError>
     requires pass { IsPassOf hub.now.turn pass.old }
     ensures pass { IsPassOf hub.now.turn pass.new }
 {
-    let Asked { question, bytes } = asked;
+    let Asked { question, bytes } = match hub.next_question(rt, alloc, pass, Extent::All) {
+        Ok(Some(asked)) => asked,
+        Ok(None) => return String::from_str(alloc, "no-question"),
+        Err(fault) => return format!(in alloc; "{fault:?}"),
+    };
     let yes = Rehearsal
         .ask(&question.key, bytes.as_slice(), &question.sig)
         .unwrap_or(false);
-    drop(bytes);
     let (body, key) = (question.body, question.key);
     match hub.answer(rt, pass, &question, yes) {
-        Ok(noted) => write!(text, " {body} {key} {noted:?}"),
-        Err(fault) => write!(text, " {body} {key} {fault:?}"),
+        Ok(noted) => format!(in alloc; "{body} {key} {noted:?}"),
+        Err(fault) => format!(in alloc; "{body} {key} {fault:?}"),
     }
 }
 
-// Says the body's number and the key of an open question, and what becomes of the rehearsal's verdict on it.
-fn ask_one<W: Wait>(
-    rt: &W,
-    alloc: Global,
-    hub: &Hub,
-    pass: &mut Pass,
-    text: &mut String,
-) -> Result<(), AllocError>
-    requires pass { IsPassOf hub.now.turn pass.old }
-    ensures pass { IsPassOf hub.now.turn pass.new }
-{
-    match hub.next_question(rt, alloc, pass, Extent::All) {
-        Ok(Some(asked)) => answer_one(rt, hub, pass, asked, text),
-        Ok(None) => text.push_str(" no-question"),
-        Err(fault) => write!(text, " {fault:?}"),
-    }
-}
-
-fn say_words(text: &mut String, state: &KeyState) -> Result<(), AllocError> {
-    text.push_str(" ")?;
-    state_words(text, state)
-}
-
-// Says the state that the pass reads.
-fn say_state<W: Wait>(
+// The state that the pass reads.
+fn state<W: Wait>(
     rt: &W,
     alloc: Global,
     hub: &Hub,
     pass: &mut Pass,
     prefix: &Prefix,
-    text: &mut String,
-) -> Result<(), AllocError>
+) -> Result<String, AllocError>
     requires pass { IsPassOf hub.now.turn pass.old }
     ensures pass { IsPassOf hub.now.turn pass.new }
 {
     match hub.state(rt, alloc, pass, prefix) {
-        Ok(Some(state)) => {
-            let said = say_words(text, &state);
-            drop(state);
-            said
-        }
-        Ok(None) => text.push_str(" none"),
-        Err(fault) => write!(text, " {fault:?}"),
+        Ok(Some(state)) => state_words(alloc, &state),
+        Ok(None) => String::from_str(alloc, "none"),
+        Err(fault) => format!(in alloc; "{fault:?}"),
     }
-}
-
-// Says what the hub answers to the message.
-fn say_reply<W: Wait>(
-    rt: &W,
-    alloc: Global,
-    hub: &Hub,
-    pass: &mut Pass,
-    message: &Message,
-    text: &mut String,
-) -> Result<(), AllocError>
-    requires pass { IsPassOf hub.now.turn pass.old }
-    ensures pass { IsPassOf hub.now.turn pass.new }
-{
-    match hub.take(rt, alloc, pass, message) {
-        Ok(reply) => write!(text, "{reply:?}"),
-        Err(fault) => write!(text, "{fault:?}"),
-    }
-}
-
-// Says what a hub answers to the message, of the state, to a verdict, and of the state behind that.
-fn say_answers<W: Wait>(
-    rt: &W,
-    alloc: Global,
-    hub: &Hub,
-    pass: &mut Pass,
-    message: &Message,
-    prefix: &Prefix,
-    text: &mut String,
-) -> Result<(), AllocError>
-    requires pass { IsPassOf hub.now.turn pass.old }
-{
-    say_reply(rt, alloc, hub, pass, message, text)?;
-    say_state(rt, alloc, hub, pass, prefix, text)?;
-    ask_one(rt, alloc, hub, pass, text)?;
-    say_state(rt, alloc, hub, pass, prefix, text)
 }
 
 // What a hub of so many turns answers to the message, of the state, to a verdict, and of the state behind that.
@@ -140,13 +71,16 @@ fn answers<W: Wait>(
     message: &Message,
     prefix: &Prefix,
 ) -> Result<String, AllocError> {
-    let (hub, mut pass) = Hub::new(alloc, untold(alloc), turns.min(TURNS))?;
-    let mut text = String::new(alloc);
-    let said = say_answers(rt, alloc, &hub, &mut pass, message, prefix, &mut text);
-    drop(pass);
-    drop(hub);
-    said?;
-    Ok(text)
+    let (hub, first) = Hub::new(alloc, untold(alloc), turns.min(TURNS))?;
+    let mut pass = first;
+    let reply = match hub.take(rt, alloc, &mut pass, message) {
+        Ok(reply) => format!(in alloc; "{reply:?}")?,
+        Err(fault) => format!(in alloc; "{fault:?}")?,
+    };
+    let before = state(rt, alloc, &hub, &mut pass, prefix)?;
+    let noted = asked(rt, alloc, &hub, &mut pass)?;
+    let behind = state(rt, alloc, &hub, &mut pass, prefix)?;
+    format!(in alloc; "{reply} {before} {noted} {behind}")
 }
 
 /// `hub TURNS PREFIX TEXT`: what becomes of the message, the state of the identifier, the number of the body and the key
@@ -161,79 +95,43 @@ pub(crate) fn read_back<W: Wait>(rt: &W, alloc: Global, row: &Row) -> Result<Str
     }
 }
 
-// Says the key of the question that the pass is given.
-fn say_key<W: Wait>(
+// The key of the question that the pass is given.
+fn key_given<W: Wait>(
     rt: &W,
     alloc: Global,
     hub: &Hub,
     pass: &mut Pass,
     extent: Extent,
-    text: &mut String,
-) -> Result<(), AllocError>
+) -> Result<String, AllocError>
     requires pass { IsPassOf hub.now.turn pass.old }
     ensures pass { IsPassOf hub.now.turn pass.new }
 {
     match hub.next_question(rt, alloc, pass, extent) {
-        Ok(Some(asked)) => {
-            let key = asked.question.key;
-            drop(asked);
-            write!(text, " {key}")
+        Ok(Some(Asked { question, .. })) => {
+            let key = question.key;
+            format!(in alloc; "{key}")
         }
-        Ok(None) => text.push_str(" none"),
-        Err(fault) => write!(text, " {fault:?}"),
+        Ok(None) => String::from_str(alloc, "none"),
+        Err(fault) => format!(in alloc; "{fault:?}"),
     }
-}
-
-// Says what two passes of a hub that was told a message are given.
-fn say_given<W: Wait>(
-    rt: &W,
-    alloc: Global,
-    hub: &Hub,
-    first: &mut Pass,
-    second: &mut Pass,
-    text: &mut String,
-) -> Result<(), AllocError>
-    requires first { IsPassOf hub.now.turn first.old }
-    requires second { IsPassOf hub.now.turn second.old }
-{
-    say_key(rt, alloc, hub, first, Extent::Free, text)?;
-    say_key(rt, alloc, hub, second, Extent::Free, text)?;
-    say_key(rt, alloc, hub, second, Extent::Free, text)?;
-    ask_one(rt, alloc, hub, first, text)?;
-    say_key(rt, alloc, hub, first, Extent::Free, text)?;
-    say_key(rt, alloc, hub, first, Extent::All, text)?;
-    say_key(rt, alloc, hub, first, Extent::First, text)
-}
-
-// Says what two passes of a hub are given, once the first told it the message.
-fn say_both<W: Wait>(
-    rt: &W,
-    alloc: Global,
-    hub: &Hub,
-    first: &mut Pass,
-    message: &Message,
-    text: &mut String,
-) -> Result<(), AllocError>
-    requires first { IsPassOf hub.now.turn first.old }
-{
-    let mut second = hub.split(first)?;
-    let said = match say_reply(rt, alloc, hub, first, message, text) {
-        Ok(()) => say_given(rt, alloc, hub, first, &mut second, text),
-        Err(error) => Err(error),
-    };
-    drop(second);
-    said
 }
 
 // What two passes of a hub that was told the message are given.
 fn given_to_both<W: Wait>(rt: &W, alloc: Global, message: &Message) -> Result<String, AllocError> {
-    let (hub, mut first) = Hub::new(alloc, untold(alloc), TURNS)?;
-    let mut text = String::new(alloc);
-    let said = say_both(rt, alloc, &hub, &mut first, message, &mut text);
-    drop(first);
-    drop(hub);
-    said?;
-    Ok(text)
+    let (hub, first) = Hub::new(alloc, untold(alloc), TURNS)?;
+    let mut first = first;
+    let mut second = hub.split(&mut first)?;
+    let Ok(reply) = hub.take(rt, alloc, &mut first, message) else {
+        return String::from_str(alloc, "no-turn");
+    };
+    let one = key_given(rt, alloc, &hub, &mut first, Extent::Free)?;
+    let other = key_given(rt, alloc, &hub, &mut second, Extent::Free)?;
+    let again = key_given(rt, alloc, &hub, &mut second, Extent::Free)?;
+    let noted = asked(rt, alloc, &hub, &mut first)?;
+    let free = key_given(rt, alloc, &hub, &mut first, Extent::Free)?;
+    let all = key_given(rt, alloc, &hub, &mut first, Extent::All)?;
+    let next = key_given(rt, alloc, &hub, &mut first, Extent::First)?;
+    format!(in alloc; "{reply:?} {one} {other} {again} {noted} {free} {all} {next}")
 }
 
 /// `passes TEXT`: what becomes of the message by the first of two passes; the keys of the questions that this pass, and

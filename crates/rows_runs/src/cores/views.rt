@@ -73,24 +73,17 @@ pub(crate) fn prefix_of(
     }
 }
 
-/// Says the number of the last live event, and how many keys and witnesses there are.
-pub(crate) fn state_words(text: &mut String, state: &KeyState) -> Result<(), AllocError> {
+/// The number of the last live event, and how many keys and witnesses there are.
+pub(crate) fn state_words(alloc: Global, state: &KeyState) -> Result<String, AllocError> {
     let (sn, keys, witnesses) = (state.sn(), state.keys.len(), state.list.len());
-    write!(text, "{sn} {keys} {witnesses}")
-}
-
-// The number of the last live event, and how many keys and witnesses there are.
-fn state_text(alloc: Global, state: &KeyState) -> Result<String, AllocError> {
-    let mut text = String::new(alloc);
-    state_words(&mut text, state)?;
-    Ok(text)
+    format!(in alloc; "{sn} {keys} {witnesses}")
 }
 
 /// `state PREFIX`: the number of the last live event and how many keys and witnesses there are, or `none`.
 fn state(alloc: Global, session: &Session, row: &Row) -> Result<String, AllocError> {
     match prefix_of(alloc, row, 1)? {
         Some(prefix) => match session.core.state(&prefix) {
-            Some(state) => state_text(alloc, state),
+            Some(state) => state_words(alloc, state),
             None => String::from_str(alloc, "none"),
         },
         None => String::from_str(alloc, "no-prefix"),
