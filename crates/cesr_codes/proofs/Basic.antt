@@ -13,7 +13,7 @@ use Rattle.cesr_codes.specs.declared.key.KeyCode.TheVariants.{Fixed, Rotating}
 use Rattle.cesr_codes.specs.declared.prefix.Prefix.{Prefix}
 use Rattle.cesr_codes.specs.declared.prefix.Prefix.TheVariants.{Basic, Said}
 use Rattle.cesr_codes.specs.Codes.{key_layout, digest_layout}
-use Rattle.cesr_codes.specs.Reading.{Stands, IsCoded}
+use Rattle.cesr_codes.specs.Reading.{IsAtFront, IsCoded}
 use Rattle.cesr_codes.specs.Spelling.{primitive_text, digest_text, key_text, prefix_text, digest_code, key_code, IsDigest, IsKey, IsPrefix}
 use Rattle.cesr_codes.specs.Table.{Layout, layout, good, bad, verdict, has_code, has_other_index, layout_verdict, key_layouts, digest_layouts, prefix_layouts}
 use Rattle.cesr_codes.proofs.Numbers.{bytes_low, length-base64_text}
@@ -23,7 +23,7 @@ pub length-primitive_text : (code : ℕ) (raw : List ℕ) → length (primitive_
 length-primitive_text code raw = omega (arith, length-base64_text 43 (whole_number raw))
 
 -- 32 raw bytes behind a code of one character
-pub stands_coded : (layouts : List Layout) (code : ℕ) (text raw : List ℕ) → IsCoded layouts (layout (code ∷ []) 0 43 32) text raw → Stands (primitive_text code) (AreBytes 32) text raw 44
+pub stands_coded : (layouts : List Layout) (code : ℕ) (text raw : List ℕ) → IsCoded layouts (layout (code ∷ []) 0 43 32) text raw → IsAtFront (primitive_text code) (AreBytes 32) text raw 44
 stands_coded layouts code text raw coded = record {
   valid = coded.whole.bytes;
   counted = sym (length-primitive_text code raw);

@@ -13,7 +13,7 @@ use Rattle.std.specs.Option.{is_none}
 use Rattle.cesr_codes.specs.declared.moment.Moment.{Moment}
 use Rattle.cesr_codes.specs.Dates.{shape, allowed, written, plain, first_misfit, is_date_time, moment_verdict, shape_verdict}
 use Rattle.cesr_codes.specs.Moments.{moment_text, IsMoment}
-use Rattle.cesr_codes.specs.Reading.{Stands}
+use Rattle.cesr_codes.specs.Reading.{IsAtFront}
 use Rattle.cesr_codes.specs.Table.{good}
 use Rattle.cesr_codes.proofs.Numbers.{no_failure, none_fails}
 use Rattle.cesr_codes.proofs.Texts.{low_at}
@@ -182,7 +182,7 @@ same_moment a b r s ia ib e =
     = sym (write_back shape a.text (omega (arith, fa.0)) shape_comes_back fa.1).0 ∙ ap (map plain) (ap (drop 4) text) ∙ (write_back shape b.text (omega (arith, fb.0)) shape_comes_back fb.1).0 in
     (same_made a.text b.text a.form b.form same, rest)
 
-pub stands_moment : (bytes : List ℕ) (moment : Moment) → 36 ≤ length bytes → bytes ≡ moment_text moment ++ drop 36 bytes → Stands moment_text IsMoment bytes moment 36
+pub stands_moment : (bytes : List ℕ) (moment : Moment) → 36 ≤ length bytes → bytes ≡ moment_text moment ++ drop 36 bytes → IsAtFront moment_text IsMoment bytes moment 36
 stands_moment bytes moment long front = record { valid = moment.form; counted = sym (length-moment_text moment); enough = long; front = front }
 
 -- what is written is ASCII

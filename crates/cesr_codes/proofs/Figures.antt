@@ -10,7 +10,7 @@ use Rattle.lists.specs.KeriSpecs.Base64.{whole_number, base64_text}
 use Rattle.lists.proofs.KeriSpecsLemmas.Digits.{number_after-split}
 use Rattle.cesr_codes.specs.declared.number.Number.{Number}
 use Rattle.cesr_codes.specs.Codes.{number_layout}
-use Rattle.cesr_codes.specs.Reading.{Stands, IsCoded}
+use Rattle.cesr_codes.specs.Reading.{IsAtFront, IsCoded}
 use Rattle.cesr_codes.specs.Spelling.{number_text, IsNumber}
 use Rattle.cesr_codes.specs.Table.{good, verdict, layout_verdict, number_layouts}
 use Rattle.cesr_codes.proofs.Numbers.{bytes_low, length-base64_text, same_digits}
@@ -69,7 +69,7 @@ from_be bs len = sum_is bs 15 15 (omega arith) (omega (arith, len)) ∙ ap (λ x
 pub length-number_text : (number : Number) → length (number_text number) ≡ 24
 length-number_text number = omega (arith, length-base64_text 22 number.value)
 
-pub stands_number : (text raw : List ℕ) (value : ℕ) → IsCoded number_layouts number_layout text raw → value ≡ from_be_bytes w128 raw → Stands number_text IsNumber text (record { value = value }) 24
+pub stands_number : (text raw : List ℕ) (value : ℕ) → IsCoded number_layouts number_layout text raw → value ≡ from_be_bytes w128 raw → IsAtFront number_text IsNumber text (record { value = value }) 24
 stands_number text raw value coded is =
     let same : value ≡ whole_number raw = is ∙ from_be raw coded.whole.bytes.0 in
     record {

@@ -15,7 +15,7 @@ use Rattle.cesr_codes.specs.declared.sig.Sig.{Sig}
 use Rattle.cesr_codes.specs.Codes.{AreIndices, indexed_layout, is_big}
 use Rattle.cesr_codes.specs.Indices.{has_form, indexed_code, index_text}
 use Rattle.cesr_codes.specs.Indexed.{indexed_text, IsIndexed}
-use Rattle.cesr_codes.specs.Reading.{Stands, IsCoded, head}
+use Rattle.cesr_codes.specs.Reading.{IsAtFront, IsCoded, head}
 use Rattle.cesr_codes.specs.Table.{layout, good, verdict, layout_verdict, has_other_index, total, indexed_layouts}
 use Rattle.cesr_codes.proofs.Numbers.{bytes_low, character-digit, characters-text, characters-append, character_at, length-base64_text, number-text, same_bytes}
 use Rattle.cesr_codes.proofs.Front.{parts, coded_good}
@@ -124,7 +124,7 @@ code_size BigBoth = refl
 code_size BigCurrent = refl
 
 pub stands_indexed : (code : IndexedCode) (text : List ℕ) (s : IndexedSig) (count : ℕ) → IsCoded indexed_layouts (indexed_layout code) text s.sig.raw → AreIndices code text s.index s.ondex → s.big ≡ is_big code
-    → count ≡ total (indexed_layout code) → (verdict indexed_layouts text ≡ good count) × Stands indexed_text IsIndexed text s count
+    → count ≡ total (indexed_layout code) → (verdict indexed_layouts text ≡ good count) × IsAtFront indexed_text IsIndexed text s count
 stands_indexed code text s count coded indices big counted =
     let front = (indexed_front code text s.sig.raw s.index s.ondex coded indices).0 in (
       coded.judged ∙ ap good (sym counted),

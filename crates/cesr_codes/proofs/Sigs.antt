@@ -4,7 +4,7 @@ use Rattle.std.proofs.lemmas.Bool.{le-ltb}
 use Rattle.lists.specs.KeriSpecs.Base64.{whole_number, base64_text}
 use Rattle.cesr_codes.specs.declared.sig.Sig.{Sig}
 use Rattle.cesr_codes.specs.Codes.{sig_layout}
-use Rattle.cesr_codes.specs.Reading.{Stands, IsCoded}
+use Rattle.cesr_codes.specs.Reading.{IsAtFront, IsCoded}
 use Rattle.cesr_codes.specs.Spelling.{sig_text, IsSig}
 use Rattle.cesr_codes.specs.Table.{good, verdict, layout_verdict, sig_layouts}
 use Rattle.cesr_codes.proofs.Numbers.{bytes_low, length-base64_text}
@@ -13,7 +13,7 @@ use Rattle.cesr_codes.proofs.Front.{parts, coded_good}
 pub length-sig_text : (sig : Sig) → length (sig_text sig) ≡ 88
 length-sig_text sig = omega (arith, length-base64_text 86 (whole_number sig.raw))
 
-pub stands_sig : (text : List ℕ) (sig : Sig) → IsCoded sig_layouts sig_layout text sig.raw → Stands sig_text IsSig text sig 88
+pub stands_sig : (text : List ℕ) (sig : Sig) → IsCoded sig_layouts sig_layout text sig.raw → IsAtFront sig_text IsSig text sig 88
 stands_sig text sig coded = record {
   valid = coded.whole.bytes;
   counted = sym (length-sig_text sig);

@@ -10,7 +10,7 @@ use Rattle.cesr_codes.specs.declared.code_fault.CodeFault.TheVariants.{Short}
 use Rattle.cesr_codes.specs.Table.{Layout, Verdict, good, short, bad, verdict, has_code, has_other_index, layout_verdict, whole_verdict, total}
 
 -- the value's spelling stands at the front, and is of this length
-pub record Stands {V : Type 0} (spelling : V → List ℕ) (IsValue : V → Type 0) (text : List ℕ) (value : V) (count : ℕ) : Type 0 where
+pub record IsAtFront {V : Type 0} (spelling : V → List ℕ) (IsValue : V → Type 0) (text : List ℕ) (value : V) (count : ℕ) : Type 0 where
   pub valid : IsValue value
   pub counted : count ≡ length (spelling value)
   pub enough : count ≤ length text
@@ -24,7 +24,7 @@ refusal fault = bad fault
 module _ {V : Type 0} (judge : List ℕ → Verdict) (spelling : V → List ℕ) (IsValue : V → Type 0) where
   -- the value at the front with the length of its spelling, or the first rule that the text fails
   abbrev pub Reads : List ℕ → Result (V × ℕ) CodeFault → Type 0
-  Reads text (Ok found) = (judge text ≡ good found.1) × Stands spelling IsValue text found.0 found.1
+  Reads text (Ok found) = (judge text ≡ good found.1) × IsAtFront spelling IsValue text found.0 found.1
   Reads text (Err fault) = judge text ≡ refusal fault
 
 -- the characters before the digits

@@ -34,5 +34,5 @@ impl Spelled for FixedKey {
         }
     }
 
-    fn held(self) {}
+    fn in_range(self) {}
 }

@@ -29,4 +29,4 @@ pub use moment::Moment;
 pub use number::Number;
 pub use prefix::Prefix;
 pub use sig::Sig;
-pub use spelled::{Spelled, all_held, of_text};
+pub use spelled::{Spelled, all_in_range, of_text};

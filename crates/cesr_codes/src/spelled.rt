@@ -28,7 +28,7 @@ pub trait Spelled: Copy {
 
     /// What the type of a value holds by itself, stated for proofs: a proof learns a value's range where the value is read.
     /// Nothing else is done here.
-    fn held(self)
+    fn in_range(self)
         ensures { is_valid self };
 }
 
@@ -49,11 +49,11 @@ pub fn of_text<P: Spelled>(text: &[u8]) -> Option<P>
 }
 
 /// What the type of each value holds by itself, as `Spelled::held` says.
-pub fn all_held<P: Spelled>(values: &[P])
+pub fn all_in_range<P: Spelled>(values: &[P])
     ensures { AllByRecursion P.is_valid values.now }
 {
     for value in values {
-        value.held();
+        value.in_range();
     }
 }
 
@@ -71,7 +71,7 @@ impl Spelled for Key {
         Key::read(text)
     }
 
-    fn held(self) {}
+    fn in_range(self) {}
 }
 
 impl Spelled for Digest {
@@ -88,7 +88,7 @@ impl Spelled for Digest {
         Digest::read(text)
     }
 
-    fn held(self) {}
+    fn in_range(self) {}
 }
 
 impl Spelled for Prefix {
@@ -105,10 +105,10 @@ impl Spelled for Prefix {
         Prefix::read(text)
     }
 
-    fn held(self) {
+    fn in_range(self) {
         match self {
-            Prefix::Basic(key) => key.held(),
-            Prefix::Said(digest) => digest.held(),
+            Prefix::Basic(key) => key.in_range(),
+            Prefix::Said(digest) => digest.in_range(),
         }
     }
 }
@@ -127,7 +127,7 @@ impl Spelled for Sig {
         Sig::read(text)
     }
 
-    fn held(self) {}
+    fn in_range(self) {}
 }
 
 impl Spelled for Number {
@@ -144,7 +144,7 @@ impl Spelled for Number {
         Number::read(text)
     }
 
-    fn held(self) {
+    fn in_range(self) {
         let _value = self.value;
     }
 }
@@ -163,7 +163,7 @@ impl Spelled for Moment {
         Moment::read(text)
     }
 
-    fn held(self) {}
+    fn in_range(self) {}
 }
 
 impl Spelled for IndexedSig {
@@ -180,7 +180,7 @@ impl Spelled for IndexedSig {
         IndexedSig::read(text)
     }
 
-    fn held(self) {
-        self.sig.held();
+    fn in_range(self) {
+        self.sig.in_range();
     }
 }

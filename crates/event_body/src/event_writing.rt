@@ -1,7 +1,7 @@
 //! Writing bodies of key events, and sealing events with the digest of their own text.
 mod body;
 mod event_text;
-mod held;
+mod in_range;
 mod laws;
 mod sealed_event;
 mod values;

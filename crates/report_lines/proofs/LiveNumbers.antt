@@ -16,7 +16,7 @@ use Rattle.journal.specs.Journal.Logs.{is_in, is_of, live, live_with, same_body}
 use Rattle.journal.proofs.JournalLemmas.Different.{Differ, differ-distinct}
 use Rattle.journal.proofs.JournalLemmas.Places.{all_at, found_at}
 use Rattle.validator_core.proofs.AcceptanceLemmas.Bodies.{among}
-use Rattle.validator_core.specs.ValidatorCore.View.{CoreView, Stands, base_of, told_of}
+use Rattle.validator_core.specs.ValidatorCore.View.{CoreView, IsSoundCore, base_of, told_of}
 use Rattle.report_lines.specs.Logs.{Marks}
 use Rattle.report_lines.specs.Report.{own_of}
 
@@ -53,12 +53,12 @@ unfolding live
 live-own log prefix = ap (fold live_with []) (filter-twice (is_of prefix) log)
 
 -- no two bodies are the same
-apart : (core : CoreView) → Stands core → Differ same_body core.held
+apart : (core : CoreView) → IsSoundCore core → Differ same_body core.held
 unfolding bodies
 apart core stands = subst (Differ same_body) (sym stands.in_order) (differ-distinct same_body (base_of core ++ flat_map taken (told_of core)))
 
 -- MARKS: the numbers of chosen bodies, in any order
-pub marked : (core : CoreView) → Stands core → (found sorted : List ℕ) → All (λ n. n < length core.held) found → IsPermutation found sorted
+pub marked : (core : CoreView) → IsSoundCore core → (found sorted : List ℕ) → All (λ n. n < length core.held) found → IsPermutation found sorted
     → (bodies : List Body) → chosen core.held found ≡ bodies → Marks core.held sorted bodies
 marked core stands found sorted held moved bodies are n b at =
     ap (λ bs. is_in bs b) (sym are)

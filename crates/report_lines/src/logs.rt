@@ -37,7 +37,7 @@ fn add_number(
 ) -> Result<(), AllocError>
     ensures { LogsNext number prefix logs.old.entries logs.new.entries result }
 {
-    prefix.held();
+    prefix.in_range();
     let mut text = [0; 44];
     prefix.write(&mut text);
     if let Some(log) = logs.get_mut(&text) {

@@ -5,7 +5,7 @@ mod claim_entries;
 mod claims;
 mod entries;
 mod entry_claims;
-mod held;
+mod in_range;
 mod log;
 mod mark;
 mod name;

@@ -17,7 +17,7 @@ use Rattle.journal.specs.Journal.Logs.{stands}
 use Rattle.journal.specs.declared.journal.conflict.Conflict.{Conflict}
 use Rattle.journal.specs.declared.journal.body.Body.{Body}
 use Rattle.journal.proofs.JournalLemmas.Apart.{flat_map-All}
-use Rattle.validator_core.specs.ValidatorCore.View.{CoreView, Stands, accepted_by, base_of, told_of}
+use Rattle.validator_core.specs.ValidatorCore.View.{CoreView, IsSoundCore, accepted_by, base_of, told_of}
 use Rattle.validator_core.specs.Acceptance.Standing.{IsHeld}
 use Rattle.watcher_core.specs.Evidence.{items_of, items_of_sets, placed_from, signatures_of}
 use Rattle.watcher_core.specs.Named.{PutsBodies, firsts_on, text_on}
@@ -61,7 +61,7 @@ module _ (core : CoreView) where
         counts_stands (told_of core) (accepted_by core) (get_or (counted core.mode (base_of core) (told_of core)) k d)
         (filter_passes (counts (told_of core) (accepted_by core)) (bodies (base_of core) (told_of core)) k d h))
 
-    all_held : Stands core → All IsHeld all_of
+    all_held : IsSoundCore core → All IsHeld all_of
     all_held stands = of_counted IsHeld (All-filter (counts (told_of core) (accepted_by core)) IsHeld (bodies (base_of core) (told_of core)) (subst (All IsHeld) stands.in_order stands.spelled))
 
     -- TEXT
@@ -72,7 +72,7 @@ module _ (core : CoreView) where
         ∙ ap (flat_map item_text) (flat_map-flat_map (items_of core) (λ set. set) sets)
 
     -- READ
-    pub sets_read : Stands core → All (λ b. All IsIndexed (firsts_on core b)) all_of
+    pub sets_read : IsSoundCore core → All (λ b. All IsIndexed (firsts_on core b)) all_of
         → Items 65535 (flat_map item_text (items_of_sets core sets)) (placed_from 0 (items_of_sets core sets)) unfinished
     sets_read is raw = written_reads (items_of_sets core sets)
         (subst MayCome (flat_map-flat_map (items_of core) (λ set. set) sets)

@@ -23,7 +23,7 @@ pub fn evidence_of(alloc: Global, core: &Core) -> Result<Evidence, AllocError>
     // Whoever reads it reads just these bodies and groups.
     ensures reads { IfOk result (λ evidence. ReadsAsEvidence core.now evidence.text.items) }
 {
-    core.stands();
+    core.sound();
     let conflicts = core.conflicts()?;
     let mut text = StreamText::new(alloc);
     put_sets(alloc, core, conflicts.as_slice(), &mut text)?;

@@ -31,7 +31,7 @@ use Rattle.blame_core.specs.BlameCore.FirstSignatures.{is_signed}
 use Rattle.blame_core.specs.BlameCore.Signatures.{came_at, came_with, good_at, good_in}
 use Rattle.blame_core.proofs.BlameCoreLemmas.EntrySignatures.{good_all}
 use Rattle.blame_core.proofs.BlameCoreLemmas.Lists.{map_flat}
-use Rattle.validator_core.specs.ValidatorCore.View.{CoreView, Stands, told_of}
+use Rattle.validator_core.specs.ValidatorCore.View.{CoreView, IsSoundCore, told_of}
 
 -- no entries yet
 pub named_none : (held : List Body) (entries : List Entry) (at : Name → List ℕ) → AreNamed held entries 0 at
@@ -49,7 +49,7 @@ named_more held entries k old new named kept added = λ i e c low is there. elim
 ]
 
 -- the bodies of a core differ
-pub held_differ : (core : CoreView) → Stands core → Differ same_body core.held
+pub held_differ : (core : CoreView) → IsSoundCore core → Differ same_body core.held
 unfolding bodies
 held_differ core stands = subst (Differ same_body) (sym stands.in_order) (differ-distinct same_body (take core.base core.held ++ flat_map taken (told_of core)))
 

@@ -16,19 +16,19 @@ use Rattle.journal.specs.Journal.Journals.{told_by, whole}
 use Rattle.journal.proofs.JournalLemmas.Locality.{bytes_differ}
 use Rattle.blame_core.specs.BlameLaws.Signatures.{came_on, signature_of, triple_on}
 use Rattle.blame_core.specs.BlameCore.FirstSignatures.{at_place, is_signed}
-use Rattle.blame_core.specs.BlameCore.Signatures.{came_with, good_in, stands_on}
+use Rattle.blame_core.specs.BlameCore.Signatures.{came_with, good_in, bears_on}
 use Rattle.blame_core.specs.declared.blame_core.signed.Signed.{Signed}
 use Rattle.blame_core.proofs.BlameCoreLemmas.FirstPlaces.{at_position}
 use Rattle.blame_core.proofs.BlameCoreLemmas.Lists.{flat_found}
 
 -- none stand on a body of another
-none_with : (b : Body) (o : Option Body) (reader : ℕ) (claims : List Claim) → stands_on b o ≡ false
+none_with : (b : Body) (o : Option Body) (reader : ℕ) (claims : List Claim) → bears_on b o ≡ false
     → came_with b (option_map (λ c. took reader c claims) o) ≡ []
 none_with b None reader claims h = refl
 none_with b (Some c) reader claims h = ap (λ t. map claimed_sig (if t then claims else [])) h
 
 pub none_came : (held : List Body) (b : Body) (e : Entry) (reader n : ℕ) (claims : List Claim) (came : List Sig) → e ≡ Took reader n claims
-    → stands_on b (slice_get held n) ≡ false → came ≡ came ++ came_with b (whole held e)
+    → bears_on b (slice_get held n) ≡ false → came ≡ came ++ came_with b (whole held e)
 none_came held b e reader n claims came is h =
     sym (append-nil came) ∙ ap (λ xs. came ++ xs) (sym (ap (λ e. came_with b (whole held e)) is ∙ none_with b (slice_get held n) reader claims h))
 

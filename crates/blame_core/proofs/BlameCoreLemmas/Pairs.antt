@@ -41,7 +41,7 @@ use Rattle.blame_core.specs.declared.blame_core.place.Place.{Place}
 use Rattle.blame_core.proofs.BlameCoreLemmas.BothSigned.{named_keys, named_ones, named_others}
 use Rattle.blame_core.proofs.BlameCoreLemmas.Judged.{AllJudged, given, judged_so, judgement_of}
 use Rattle.blame_core.proofs.BlameCoreLemmas.Places.{looked_up, one_place, place_itself, place_same}
-use Rattle.validator_core.specs.ValidatorCore.View.{CoreView, Stands, accepted_by, told_of}
+use Rattle.validator_core.specs.ValidatorCore.View.{CoreView, IsSoundCore, accepted_by, told_of}
 
 all_by : {X : Type 0} (P : X → Type 0) (xs : List X) (x : X) → AllByRecursion P xs → Among x xs → P x
 all_by P [] x all m = absurd m
@@ -116,7 +116,7 @@ pub record IsWhole (core : CoreView) : Type 0 where
   pub regular : IsRegular Full [] (told_of core)
   pub grown : IsGrown (accepted_by core)
 
-pub whole_core : (core : CoreView) → core.mode ≡ Full → core.base ≡ 0 → Stands core → IsWhole core
+pub whole_core : (core : CoreView) → core.mode ≡ Full → core.base ≡ 0 → IsSoundCore core → IsWhole core
 whole_core core full whole stands =
     let told = told_of core in
     let log : accepted_by core ≡ accepted Full [] told = λ i. accepted (full i) (take (whole i) core.held) told in

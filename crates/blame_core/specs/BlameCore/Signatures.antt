@@ -24,9 +24,9 @@ abbrev pub is_receipt_of : Event → Event → Bool
 is_receipt_of r e = is_receipt_for (record { bytes = []; event = r }) (record { bytes = []; event = e })
 
 -- the body, where there is one, is this one or a receipt for it
-abbrev pub stands_on : Body → Option Body → Bool
-stands_on b None = false
-stands_on b (Some c) = same_body c b || is_receipt_for c b
+abbrev pub bears_on : Body → Option Body → Bool
+bears_on b None = false
+bears_on b (Some c) = same_body c b || is_receipt_for c b
 
 -- the signatures of an entry that stand on the body
 abbrev pub came_with : Body → Option Told → List Sig

@@ -89,7 +89,7 @@ fn place_of(event: &Event) -> Place
     ensures prefix { IsPrefix (events.prefix_of event.now) }
 {
     let prefix = event.prefix();
-    prefix.held();
+    prefix.in_range();
     let mut text = [0; 44];
     prefix.write(&mut text);
     Place {

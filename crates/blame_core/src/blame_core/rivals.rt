@@ -31,8 +31,8 @@ pub fn blame(alloc: Global, first: &Core, second: &Core) -> Result<Items<Blame>,
     // honest.
     ensures { IfOk result (λ blames. AreBlames first.now second.now blames) }
 {
-    first.stands();
-    second.stands();
+    first.sound();
+    second.sound();
     let ones = establishments(alloc, first)?;
     let others = establishments(alloc, second)?;
     let named = named_entries(alloc, first)?;

@@ -2,7 +2,7 @@
 ghost use Rattle.std.specs.Prelude.{◌≡◌, ◌++◌, Some, flat_map, map, option_map, slice_get, IfOk, OnOk};
 ghost use Rattle.blame_core.specs.BlameCore.NamedEntries.{HasNamed};
 ghost use Rattle.blame_core.specs.BlameCore.Signatures.{AreSignatures, came_at, came_with, good_at, good_in, is_body};
-ghost use Rattle.blame_core.specs.BlameCore.Signatures.{is_receipt_of, signature_by, stands_on};
+ghost use Rattle.blame_core.specs.BlameCore.Signatures.{is_receipt_of, signature_by, bears_on};
 ghost use Rattle.validator_core.specs.Tables.View.{body_of};
 ghost use Rattle.journal.specs.Journal.History as history;
 ghost use Rattle.journal.specs.Journal.Journals.{whole};
@@ -104,7 +104,7 @@ fn add_came(
         ≡ came.old.items ++ came_with (body_of text.now event.now) (whole core.now.held entry.now)) }
 {
     if let Entry::Took { body, claims, .. } = entry {
-        if stands_on(core, *body, text, event) {
+        if bears_on(core, *body, text, event) {
             return add_claims(came, claims.as_slice());
         }
     }
@@ -121,8 +121,8 @@ fn add_claims(came: &mut Vec<Sig>, claims: &[Claim]) -> Result<(), AllocError>
 }
 
 // Whether the body of a number is this one, or a receipt for it.
-fn stands_on(core: &Core, number: u32, text: &[u8], event: &Event) -> bool
-    ensures { result ≡ stands_on (body_of text.now event.now) (slice_get core.now.held number) }
+fn bears_on(core: &Core, number: u32, text: &[u8], event: &Event) -> bool
+    ensures { result ≡ bears_on (body_of text.now event.now) (slice_get core.now.held number) }
 {
     match core.event(number) {
         Some(other) => is_body(core, number, text) || is_receipt_for(other, event),

@@ -11,7 +11,7 @@ ghost use Rattle.event_body.specs.EventWriting.Writable.{HasOwnThresholds, IsWri
 
 use crate::body_fields::{Kind, digest_tree, prefix_tree, write_fields};
 use crate::event_body::{BodyFault, Event, ReadBody, read_body};
-use crate::event_writing::held::held;
+use crate::event_writing::in_range::in_range;
 use crate::event_writing::values::values;
 use json_tree::Tree;
 use lists::Items;
@@ -42,7 +42,7 @@ fn written(alloc: Global, event: &Event) -> Result<Vec<u8>, ReadBody>
     ensures spelled { IfOk result (λ text. SpellsEvent event.now text.items × (length text.items ≤ 65535)) }
     ensures fault { IfErr result (λ fault. IsFaultOf event.now fault) }
 {
-    held(event);
+    in_range(event);
     let text = event_text(alloc, event)?;
     match fault_of(alloc, event, &text) {
         None => Ok(text),
@@ -52,7 +52,7 @@ fn written(alloc: Global, event: &Event) -> Result<Vec<u8>, ReadBody>
 
 // Why the event's text is no body.
 fn fault_of(alloc: Global, event: &Event, text: &[u8]) -> Option<ReadBody>
-    requires held { IsTyped event.now }
+    requires typed { IsTyped event.now }
     requires thresholds { HasOwnThresholds event.now }
     requires writable { IsWritable event.now }
     requires text { text.now ≡ text_of event.now }
@@ -64,7 +64,7 @@ fn fault_of(alloc: Global, event: &Event, text: &[u8]) -> Option<ReadBody>
 
 /// The event's text, where it has at most 65,535 bytes.
 pub(crate) fn event_text(alloc: Global, event: &Event) -> Result<Vec<u8>, ReadBody>
-    requires held { IsTyped event.now }
+    requires typed { IsTyped event.now }
     requires thresholds { HasOwnThresholds event.now }
     requires writable { IsWritable event.now }
     ensures text { IfOk result (λ text. (text.items ≡ text_of event.now) × (length text.items ≤ 65535)) }

@@ -7,7 +7,7 @@ ghost use Rattle.event_body.specs.EventWriting.Writable.{IsWritable};
 
 use crate::event_body::{Event, ReadBody};
 use crate::event_writing::body::event_text;
-use crate::event_writing::held::held;
+use crate::event_writing::in_range::in_range;
 use crate::event_writing::sealed_event::{digested_text, with_digest};
 use cesr_codes::{Digest, DigestCode};
 use said_digest::digest_of;
@@ -28,7 +28,7 @@ pub fn sealed_text(alloc: Global, event: &Event, code: DigestCode) -> Result<Eve
     ensures text { IfOk result (λ made. made.text.items ≡ text_of (specs.sealed_event code event.now)) }
     ensures large { IfErr result (λ fault. IsLengthFault (text_of (specs.sealed_event code event.now)) fault) }
 {
-    held(event);
+    in_range(event);
     match digested_text(alloc, event) {
         Ok(text) => text_with(alloc, event, digest_of(code, &text)),
         Err(fault) => Err(fault),
@@ -43,7 +43,7 @@ fn text_with(alloc: Global, event: &Event, said: Digest) -> Result<EventText, Re
     ensures large { IfErr result (λ fault. IsLengthFault (text_of (specs.with_digest said event.now)) fault) }
 {
     let sealed = with_digest(alloc, event, said)?;
-    held(&sealed);
+    in_range(&sealed);
     match event_text(alloc, &sealed) {
         Ok(text) => Ok(EventText {
             event: sealed,

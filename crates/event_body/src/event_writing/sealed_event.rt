@@ -12,7 +12,7 @@ ghost use Rattle.event_body.specs.EventWriting.Writable.{HasOwnThresholds, IsWri
 use crate::body_fields::prefix_tree;
 use crate::event_body::{BodyFault, Event, Inception, Interaction, ReadBody, Rotation};
 use crate::event_writing::body::{body_text, write_body};
-use crate::event_writing::held::held;
+use crate::event_writing::in_range::in_range;
 use crate::event_writing::values::values;
 use cesr_codes::{Digest, DigestCode, Prefix};
 use json_tree::Tree;
@@ -45,7 +45,7 @@ fn seal(alloc: Global, event: &Event, code: DigestCode) -> Result<Event, ReadBod
     ensures fault { IfErr result (λ fault. IsFaultOf (specs.sealed_event code event.now) fault) }
     ensures said { result ≢ Err (ReadBody.Fault BodyFault.Said) }
 {
-    held(event);
+    in_range(event);
     match digested_text(alloc, event) {
         Ok(text) => sealed_with(alloc, event, digest_of(code, &text)),
         Err(fault) => Err(fault),
@@ -71,7 +71,7 @@ fn sealed_with(alloc: Global, event: &Event, said: Digest) -> Result<Event, Read
 
 /// The event's text with placeholders, where it has at most 65,535 bytes.
 pub(crate) fn digested_text(alloc: Global, event: &Event) -> Result<Vec<u8>, ReadBody>
-    requires held { IsTyped event.now }
+    requires typed { IsTyped event.now }
     requires thresholds { HasOwnThresholds event.now }
     requires writable { IsWritable event.now }
     ensures text { IfOk result (λ text. (text.items ≡ rules.digested_text event.now) × (length text.items ≤ 65535)) }

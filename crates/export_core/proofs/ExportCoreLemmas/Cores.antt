@@ -137,13 +137,13 @@ module _ (core : CoreView) (full : core.mode ≡ Full) (no_base : core.base ≡ 
       }
     where
       all_held : All IsHeld (bodies [] (told_of core))
-      all_held = subst (λ n. All IsHeld (bodies (take n core.held) (told_of core))) no_base (subst (All IsHeld) is.stands.in_order is.stands.spelled)
+      all_held = subst (λ n. All IsHeld (bodies (take n core.held) (told_of core))) no_base (subst (All IsHeld) is.sound.in_order is.sound.spelled)
 
       log_held : All IsHeld (accepted Full [] (told_of core))
       log_held = accepted_inside IsHeld Full [] (told_of core) (All-nil IsHeld) all_held
 
       regular : IsRegular Full [] (told_of core)
-      regular = subst (λ m. IsRegular m [] (told_of core)) full (subst (λ n. IsRegular core.mode (take n core.held) (told_of core)) no_base is.stands.regular)
+      regular = subst (λ m. IsRegular m [] (told_of core)) full (subst (λ n. IsRegular core.mode (take n core.held) (told_of core)) no_base is.sound.regular)
 
 -- a core that differs in its list of accepted numbers alone has the same export
 pub export_alike : (core : CoreView) (numbers : List ℕ) (prefix : Prefix) (text : List ℕ) (count : ℕ) → IsExport core prefix text count

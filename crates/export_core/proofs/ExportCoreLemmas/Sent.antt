@@ -15,7 +15,7 @@ use Rattle.journal.specs.Journal.Replies.{same_claim}
 use Rattle.journal.proofs.JournalLemmas.Different.{Differ, differ-distinct}
 use Rattle.key_state.specs.Same.{distinct}
 use Rattle.export_core.specs.ExportLaws.Export.{ordered}
-use Rattle.validator_core.specs.ValidatorCore.View.{CoreView, Stands, base_of, told_of}
+use Rattle.validator_core.specs.ValidatorCore.View.{CoreView, IsSoundCore, base_of, told_of}
 use Rattle.export_core.specs.ExportCore.Came.{event_in, name_cmp}
 use Rattle.export_core.specs.ExportCore.Exported.{HasCome, sent_by}
 use Rattle.export_core.specs.ExportCore.GoodClaims.{is_good_by}
@@ -34,11 +34,11 @@ same_filter : {X : Type 0} (p q : X → Bool) → ((x : X) → p x ≡ q x) → 
 same_filter p q same xs = λ i. filter (λ x. same x i) xs
 
 -- the bodies of a core differ
-pub held_differ : (core : CoreView) → Stands core → Differ same_body core.held
+pub held_differ : (core : CoreView) → IsSoundCore core → Differ same_body core.held
 unfolding bodies
 held_differ core stands = subst (Differ same_body) (sym stands.in_order) (differ-distinct same_body (base_of core ++ flat_map taken (told_of core)))
 
-module _ (core : CoreView) (stands : Stands core) (came : Came) (has : HasCome core came) (own : Signers) (n : ℕ) (b : Body) (at : slice_get core.held n ≡ Some b) where
+module _ (core : CoreView) (stands : IsSoundCore core) (came : Came) (has : HasCome core came) (own : Signers) (n : ℕ) (b : Body) (at : slice_get core.held n ≡ Some b) where
   abbrev events : List Event
   events = map (λ b. b.event) core.held
 

@@ -14,7 +14,7 @@ use Rattle.journal.specs.Journal.Readiness.{yes_to}
 use Rattle.journal.specs.Journal.Replies.{same_claim}
 use Rattle.key_state.specs.Exposure.{rules_of}
 use Rattle.key_state.specs.Same.{are_witnesses, distinct, same_prefix}
-use Rattle.validator_core.specs.ValidatorCore.View.{CoreView, Stands, accepted_by, told_of}
+use Rattle.validator_core.specs.ValidatorCore.View.{CoreView, IsSoundCore, accepted_by, told_of}
 use Rattle.export_core.specs.ExportLaws.Export.{IsFamily, Sent, exported, is_of_some, messages_of, ordered}
 use Rattle.export_core.specs.ExportCore.Came.{HasEntries, HasYes}
 use Rattle.export_core.specs.ExportCore.Messages.{IsExportText}
@@ -60,7 +60,7 @@ pub record PutsAt (core : CoreView) (family : List Prefix) (place : ℕ) (b : Bo
 
 -- all events of the family are written
 pub record IsWritten (core : CoreView) (first : Prefix) (exported_text : Exported) : Type 0 where
-  pub stands : Stands core
+  pub sound : IsSoundCore core
   pub family : List Prefix
   pub is_family : IsFamily (accepted_by core) first family
   pub text_is : IsExportText (messages_at core family (accepted_by core)) exported_text.text.items

@@ -3,7 +3,7 @@ ghost use Rattle.std.specs.Prelude.{◌≡◌, ◌+◌, IfOk, Some, slice_get, t
 ghost use Rattle.export_core.specs.ExportCore.Exported.{HasCome, HasSigners, IsWritten, PutsAt, sent_by};
 ghost use Rattle.journal.specs.declared.journal.body.Body.{Body};
 ghost use Rattle.journal.specs.declared.journal.mode.Mode.TheVariants.{Full};
-ghost use Rattle.validator_core.specs.ValidatorCore.View.{Stands, accepted_by, told_of};
+ghost use Rattle.validator_core.specs.ValidatorCore.View.{IsSoundCore, accepted_by, told_of};
 
 use crate::export_core::came::{claims_by_all, entries_by_name, good_signatures};
 use crate::export_core::family::{family_of, has_prefix};
@@ -45,7 +45,7 @@ pub(crate) fn exported_of(
     requires no_base { core.now.base ≡ 0 }
     ensures { IfOk result (IsWritten core.now prefix.now) }
 {
-    core.stands();
+    core.sound();
     let family = family_of(alloc, core, prefix)?;
     let came = came_to(alloc, core)?;
     let mut signers = BTreeMap::new(alloc);
@@ -96,7 +96,7 @@ fn put_event(
 ) -> Result<bool, AllocError>
     requires full { core.now.mode ≡ Full }
     requires no_base { core.now.base ≡ 0 }
-    requires stands { Stands core.now }
+    requires sound { IsSoundCore core.now }
     requires came { HasCome core.now came.now }
     requires signers { HasSigners family.now.keys (take place (accepted_by core.now)) signers.old }
     ensures { IfOk result (λ is_put. (b : Body) → slice_get (accepted_by core.now) place ≡ Some b
@@ -140,7 +140,7 @@ fn sent_claims(
     number: u32,
     event: &Event,
 ) -> Result<Vec<Claim>, AllocError>
-    requires stands { Stands core.now }
+    requires sound { IsSoundCore core.now }
     requires came { HasCome core.now came.now }
     ensures { IfOk result (λ claims. (b : Body) → slice_get core.now.held number ≡ Some b → b.event ≡ event.now
         → claims.items ≡ sent_by (told_of core.now) own.now b) }

@@ -12,7 +12,7 @@ use Rattle.journal.specs.Journal.Questions.{IsRegular}
 use Rattle.journal.specs.Journal.Readiness.{is_ready}
 use Rattle.journal.specs.Journal.Replies.{IsWithin}
 use Rattle.validator_core.specs.Acceptance.Standing.{IsHeld}
-use Rattle.validator_core.specs.ValidatorCore.View.{CoreView, Stands, told_of}
+use Rattle.validator_core.specs.ValidatorCore.View.{CoreView, IsSoundCore, told_of}
 use Rattle.validator_core.proofs.ValidatorCoreLemmas.OpenQuestions.{no_bodies}
 use Rattle.run_status.specs.declared.run_status.besides.Besides.{Besides}
 use Rattle.run_status.specs.declared.run_status.close.Close.{Close}
@@ -31,13 +31,13 @@ unfolding told_by
 untold core none = rw none refl
 
 -- what is true of a core that began with nothing
-pub regular_of : (core : CoreView) → core.base ≡ 0 → Stands core → IsRegular core.mode [] (told_of core)
+pub regular_of : (core : CoreView) → core.base ≡ 0 → IsSoundCore core → IsRegular core.mode [] (told_of core)
 regular_of core b stands = subst (λ bodies. IsRegular core.mode bodies (told_of core)) (no_bodies core b) stands.regular
 
-pub within_of : (core : CoreView) → core.base ≡ 0 → Stands core → IsWithin core.limits [] (told_of core)
+pub within_of : (core : CoreView) → core.base ≡ 0 → IsSoundCore core → IsWithin core.limits [] (told_of core)
 within_of core b stands = let none = no_bodies core b in let within = rw none at stands.within in within (omega arith)
 
-pub settled_of : (core : CoreView) (mode : Mode) → core.base ≡ 0 → core.mode ≡ mode → Stands core → AreSettled mode core.held (told_of core)
+pub settled_of : (core : CoreView) (mode : Mode) → core.base ≡ 0 → core.mode ≡ mode → IsSoundCore core → AreSettled mode core.held (told_of core)
 settled_of core mode b m stands =
     let none : All (λ c. is_ready core.mode (told_of core) (accepted core.mode [] (told_of core)) c ≡ false) core.held
     = subst (λ bodies. All (λ c. is_ready core.mode (told_of core) (accepted core.mode bodies (told_of core)) c ≡ false) core.held) (no_bodies core b) stands.settled in
@@ -57,9 +57,9 @@ is_told_by mode limits given readers rest core t = record {
   read = t.read.read;
   fed = record {
     held = core.held;
-    reading = record { bytes_are = refl; spelled = All-weaker IsHeld (λ b. SpellsEvent b.event b.bytes) (λ b h. h.spelled) core.held t.stands.spelled };
-    in_order = subst (λ n. InOrder n core.held core.entries) t.no_base t.stands.in_order;
-    all_held = t.stands.all_held;
+    reading = record { bytes_are = refl; spelled = All-weaker IsHeld (λ b. SpellsEvent b.event b.bytes) (λ b h. h.spelled) core.held t.sound.spelled };
+    in_order = subst (λ n. InOrder n core.held core.entries) t.no_base t.sound.in_order;
+    all_held = t.sound.all_held;
     fed = t.read.fed;
   };
   each = t.read.each;
@@ -67,9 +67,9 @@ is_told_by mode limits given readers rest core t = record {
   failed = t.failed;
   only = t.only;
   alone = t.alone;
-  regular = subst (λ m. IsRegular m [] (told_of core)) t.mode_is (regular_of core t.no_base t.stands);
-  within = subst (λ l. IsWithin l [] (told_of core)) t.limits_are (within_of core t.no_base t.stands);
-  settled = settled_of core mode t.no_base t.mode_is t.stands;
+  regular = subst (λ m. IsRegular m [] (told_of core)) t.mode_is (regular_of core t.no_base t.sound);
+  within = subst (λ l. IsWithin l [] (told_of core)) t.limits_are (within_of core t.no_base t.sound);
+  settled = settled_of core mode t.no_base t.mode_is t.sound;
   complete = is_complete mode limits given readers rest core t;
 }
 

@@ -124,7 +124,7 @@ module _ (seed logs events : ℕ) (limits : Limits) (rest : LastRound) (reader :
       mode_is = t.mode_is;
       limits_are = t.limits_are;
       no_base = t.no_base;
-      stands = t.stands;
+      sound = t.sound;
     }
 
     tells_made : (close : Close) → reader.close ≡ close → ClosedSo (made_close close)

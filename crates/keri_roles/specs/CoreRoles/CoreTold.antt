@@ -14,7 +14,7 @@ use Rattle.journal.specs.Journal.Journals.{told_by}
 use Rattle.journal.specs.Journal.Questions.{questions, IsInStep, IsRegular}
 use Rattle.journal.specs.Journal.Readiness.{is_ready}
 use Rattle.journal.specs.Journal.Replies.{IsWithin}
-use Rattle.validator_core.specs.ValidatorCore.View.{CoreView, Stands}
+use Rattle.validator_core.specs.ValidatorCore.View.{CoreView, IsSoundCore}
 use Rattle.run_status.specs.RunOutside.Makings.{AreMakings}
 use Rattle.run_status.specs.RunOutside.Shown.{OutsideShown, making}
 use Rattle.run_status.specs.declared.run_outside.making.Making.{Making}
@@ -71,7 +71,7 @@ AreSettled mode held told = All (λ b. is_ready mode told (accepted mode [] told
 pub record IsJournalOf (core : CoreView) (journal : Journal) : Type 0 where
   pub bodies : journal.bodies ≡ map (λ b. b.bytes) core.held
   pub entries : journal.entries ≡ core.entries
-  pub stands : Stands core
+  pub sound : IsSoundCore core
 
 -- a core by its bodies and its entries, by which alone a text is made
 abbrev pub core_of : Mode → Limits → List Body → List Entry → CoreView

@@ -32,9 +32,9 @@ pub record IsRefused (reading : Reading) (bad : Bad) : Type 0 where
   pub at : bad.place ≡ reading.place + within
 
 -- no item is whole in the rest, or a rule refuses it
-abbrev pub StandsAt : Option Bad → Reading → Type 0
-StandsAt None reading = IsIdle reading
-StandsAt (Some bad) reading = IsRefused reading bad
+abbrev pub StopsWith : Option Bad → Reading → Type 0
+StopsWith None reading = IsIdle reading
+StopsWith (Some bad) reading = IsRefused reading bad
 
 -- a reader, the domain in which its items are written, whether the sink failed, and what the sink shows
 pub record Progress : Type 0 where

@@ -4,7 +4,7 @@ ghost use Rattle.keri_outside.specs.Shown.{SinkShown, sink_shown};
 ghost use Rattle.run_status.specs.RunStatus.RunEnds.{Puts};
 ghost use Rattle.cesr_stream.specs.Written.{IsWritable};
 ghost use Rattle.cesr_binary.specs.Wire.{item_in};
-ghost use Rattle.keri_roles.specs.ItemConversion.Progress.{GoesOn, IsIdle, StandsAt, progress_of};
+ghost use Rattle.keri_roles.specs.ItemConversion.Progress.{GoesOn, IsIdle, StopsWith, progress_of};
 ghost use Rattle.keri_roles.specs.ItemConversion.Pieces.{EndsSo, FeedsNone, FeedsPiece, PassesEnd, intake};
 
 use cesr_binary::{Domain, MixedReader, write_in};
@@ -55,7 +55,7 @@ impl Converter {
     /// Writes all items that are whole, and answers why the stream is refused, where it is.
     pub(crate) fn write_items<K: Sink>(&mut self, sink: &mut K) -> Result<Option<Bad>, AllocError>
         requires { self.old.reader.bad ≡ None }
-        ensures stands { IfOk result (λ bad. StandsAt bad self.new.reader) }
+        ensures stops { IfOk result (λ bad. StopsWith bad self.new.reader) }
 
         // Whatever was fed, its items from the front were put, where it was so before.
         ensures goes_on { GoesOn (progress_of K.written K.faults self.old sink.old)

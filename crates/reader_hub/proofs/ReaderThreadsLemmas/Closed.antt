@@ -3,12 +3,12 @@ use Rattle.std.proofs.Common.{◌≡◌, ◌≤◌, List, [], Some, ◌∙◌, s
 use Rattle.keri_outside.specs.declared.limits.Limits.{Limits}
 use Rattle.journal.specs.declared.journal.body.Body.{Body}
 use Rattle.journal.specs.Journal.Replies.{IsWithin}
-use Rattle.validator_core.specs.ValidatorCore.View.{CoreView, Stands, bytes_of, told_of}
+use Rattle.validator_core.specs.ValidatorCore.View.{CoreView, IsSoundCore, bytes_of, told_of}
 use Rattle.validator_core.proofs.ValidatorCoreLemmas.OpenQuestions.{no_bodies}
 use Rattle.reader_hub.specs.ReaderHub.Hubs.{head_of}
 use Rattle.reader_hub.specs.declared.reader_hub.core_head.CoreHead.{CoreHead}
 
-pub within_by : (core : CoreView) (limits : Limits) → core.base ≡ 0 → core.limits ≡ limits → Stands core → IsWithin limits [] (told_of core)
+pub within_by : (core : CoreView) (limits : Limits) → core.base ≡ 0 → core.limits ≡ limits → IsSoundCore core → IsWithin limits [] (told_of core)
 within_by core limits base same stands =
     subst (λ (l : Limits). IsWithin l [] (told_of core)) same
     (subst (λ (b : List Body). bytes_of b ≤ core.limits.body_bytes → IsWithin core.limits b (told_of core)) (no_bodies core base) stands.within (omega arith))

@@ -11,7 +11,7 @@ use Rattle.keri_outside.specs.declared.inquiry.Inquiry.{Inquiry}
 use Rattle.keri_outside.specs.declared.limits.Limits.{Limits}
 use Rattle.run_status.specs.RunStatus.Readers.{Reader, reader_seen}
 use Rattle.turn_lock.specs.Locks.{LockId, known, limit_of, lock, lock_of}
-use Rattle.validator_core.specs.ValidatorCore.View.{CoreView, Stands, told_of}
+use Rattle.validator_core.specs.ValidatorCore.View.{CoreView, IsSoundCore, told_of}
 use Rattle.reader_hub.specs.ReaderHub.Closing.{AreAll, ClosesAll}
 use Rattle.reader_hub.specs.ReaderHub.Hubs.{head_of}
 use Rattle.reader_hub.specs.declared.reader_hub.core_head.CoreHead.{CoreHead}
@@ -107,7 +107,7 @@ module _ {S V : Type 0} (left : S → Option (List ℕ)) (faults : S → ℕ) (s
     pub head_stays : head_of core ≡ head
     head_stays = same_head core head (leaves left faults says inquiries verifier_faults limits limit id head 0 (length jobs) own.providers end one).head_is closes.same_head
 
-    pub what_was_read : head.limits ≡ limits → limit ≡ limits.turns → core.base ≡ 0 → Stands core
+    pub what_was_read : head.limits ≡ limits → limit ≡ limits.turns → core.base ≡ 0 → IsSoundCore core
         → AllRead limits (told_of core) (map (given_by left faults says inquiries verifier_faults) (own.providers ∷ given))
         (map (reader_seen left faults says inquiries verifier_faults) all.ends.readers.items) NoneFailed
     what_was_read limits_are turns no_base stands =

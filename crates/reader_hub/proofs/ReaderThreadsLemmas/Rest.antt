@@ -22,7 +22,7 @@ use Rattle.run_status.specs.declared.run_status.close.Close.{Close}
 use Rattle.run_status.specs.declared.run_status.close.Close.TheVariants.{End, Bad, ReadFault, VerifierFault, SignerFault, DiskFault, WriteFault, Malformed, LimitReached, OutOfMemory as NoMemory}
 use Rattle.turn_lock.specs.Histories.{share_of}
 use Rattle.turn_lock.proofs.Histories.{share_of-append}
-use Rattle.validator_core.specs.ValidatorCore.View.{CoreView, Stands, open_of, told_of}
+use Rattle.validator_core.specs.ValidatorCore.View.{CoreView, IsSoundCore, open_of, told_of}
 use Rattle.validator_core.proofs.ValidatorCoreLemmas.OpenQuestions.{no_bodies}
 use Rattle.reader_hub.specs.SharedReader.Asks.{AsksFor, Says, verdict_count}
 use Rattle.reader_hub.specs.SharedReader.ReadsOne.{is_stopped}
@@ -358,7 +358,7 @@ module _ (limits : Limits) (told more : List Told) (count : ℕ) (verdicts : All
 -- what all readers told, with the last round
 pub all_told : (mode : Mode) (limits : Limits) (given : List Given) (olds news : List Reader) (old new : CoreView) (rest : LastRound) → AllRead limits (told_of old) given olds NoneFailed
     → EachAsksOnly mode (told_of old) given olds → (length olds ≡ 1 → IsInStep mode (told_of old)) → AsksRest 0 olds news old new rest
-    → old.mode ≡ mode → old.limits ≡ limits → old.base ≡ 0 → Stands new → AllTold mode limits given news rest new
+    → old.mode ≡ mode → old.limits ≡ limits → old.base ≡ 0 → IsSoundCore new → AllTold mode limits given news rest new
 all_told mode limits given olds news old new rest read before alone asks mode_is limits_are no_base stands = record {
   read = subst (λ (l : List Told). AllRead limits l given news rest) (sym asks.behind)
       (all_read_on limits (told_of old) asks.more (length olds) asks.verdicts within rest given olds news read asks.each (omega arith));
@@ -373,7 +373,7 @@ all_told mode limits given olds news old new rest read before alone asks mode_is
   mode_is = mode_now;
   limits_are = limits_now;
   no_base = base_now;
-  stands = stands;
+  sound = stands;
 }
   where
     mode_now : new.mode ≡ mode

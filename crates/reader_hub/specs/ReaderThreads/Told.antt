@@ -6,7 +6,7 @@ use Rattle.keri_outside.specs.declared.limits.Limits.{Limits}
 use Rattle.journal.specs.declared.journal.mode.Mode.{Mode}
 use Rattle.journal.specs.Journal.Questions.{IsInStep, questions}
 use Rattle.run_status.specs.RunStatus.Readers.{Reader, VerifierShown, reader_seen}
-use Rattle.validator_core.specs.ValidatorCore.View.{CoreView, Stands, told_of}
+use Rattle.validator_core.specs.ValidatorCore.View.{CoreView, IsSoundCore, told_of}
 use Rattle.reader_hub.specs.SharedReader.Asks.{Says}
 use Rattle.reader_hub.specs.ReaderThreads.Asked.{EachAsksOnly}
 use Rattle.reader_hub.specs.ReaderThreads.Fed.{AllRead}
@@ -52,7 +52,7 @@ pub record AllTold (mode : Mode) (limits : Limits) (given : List Given) (readers
   pub mode_is : core.mode ≡ mode
   pub limits_are : core.limits ≡ limits
   pub no_base : core.base ≡ 0
-  pub stands : Stands core
+  pub sound : IsSoundCore core
 
 -- and so readers that were given these, by what is seen of them
 abbrev pub HaveRun : {S V : Type 0} → (S → Option (List ℕ)) → (S → ℕ) → (V → Says) → (V → Option (List Inquiry)) → (V → ℕ)

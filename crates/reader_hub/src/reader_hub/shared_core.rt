@@ -135,7 +135,7 @@ impl SharedCore {
             (option_map (λ a. a.question) answer) (next_question self.now.core.mode [] (told_of self.now.core) skip)) }
         ensures bytes { IfOk result (λ answer. HasBytes (bodies [] (told_of self.now.core)) answer) }
     {
-        self.core.stands();
+        self.core.sound();
         let Some(question) = self.core.next_question(skip) else {
             return Ok(None);
         };
@@ -159,7 +159,7 @@ impl SharedCore {
             (told_of self.new.core)) }
         ensures err { OnErr result (told_of self.new.core ≡ told_of self.old.core) }
     {
-        self.core.stands();
+        self.core.sound();
         let mut steps = Steps::new();
         let noted = self.core.answer(reader, question, yes, &mut steps)?;
         self.handed.take_back(reader);

@@ -3,7 +3,7 @@ ghost use Rattle.std.specs.Prelude.{◌≡◌, ◌<◌, [], ◌∷◌, length, m
 ghost use Rattle.std.specs.List.{AllByRecursion};
 ghost use Rattle.run_status.specs.RunStatus.Readers.{reader_seen};
 ghost use Rattle.turn_lock.specs.Locks.{IsPassOf, known};
-ghost use Rattle.validator_core.specs.ValidatorCore.View.{Stands, told_of};
+ghost use Rattle.validator_core.specs.ValidatorCore.View.{IsSoundCore, told_of};
 ghost use Rattle.reader_hub.specs.ReaderHub.Closing.{AreAll, ClosesAll};
 ghost use Rattle.reader_hub.specs.ReaderHub.Hubs.{head_of};
 ghost use Rattle.reader_hub.specs.ReaderThreads.Asked.{EachAsksOnly};
@@ -95,7 +95,7 @@ impl<S: Source + Drop + Send, V: Verifier + Drop + Send> ReaderSeats<S, V> {
     {
         let (mut core, mut readers) = self.run(rt, alloc, gate, providers);
         let rest = ask_rest(&mut core, readers.as_mut_slice());
-        core.stands();
+        core.sound();
         Ran {
             core,
             readers,
@@ -115,7 +115,7 @@ impl<S: Source + Drop + Send, V: Verifier + Drop + Send> ReaderSeats<S, V> {
         ensures mode { result.0.mode ≡ mode_of self }
         ensures limits { result.0.limits ≡ self.limits }
         ensures no_base { result.0.base ≡ 0 }
-        ensures stands { Stands result.0 }
+        ensures sound { IsSoundCore result.0 }
         ensures read { AllRead self.limits (told_of result.0)
             (map (given_by S.left S.faults V.says V.inquiries V.faults) providers.items)
             (map (reader_seen S.left S.faults V.says V.inquiries V.faults) result.1.items) LastRound.NoneFailed }
@@ -152,7 +152,7 @@ fn close<S, V>(hub: Hub, all: AllEnds<S, V>) -> (Core, Vec<ReaderEnd<S, V>>)
     requires others { AllByRecursion (λ p. IsPassOf hub.turn p) all.ends.passes.items }
     requires all { AreAll (known all.pass ∷ map (λ p. known p) all.ends.passes.items) }
     ensures no_base { result.0.base ≡ 0 }
-    ensures stands { Stands result.0 }
+    ensures sound { IsSoundCore result.0 }
     ensures closed { ClosesAll told_of head_of reader_of (known all.pass) (map (λ p. known p) all.ends.passes.items)
         result.0 }
     ensures readers { result.1 ≡ all.ends.readers }
@@ -160,7 +160,7 @@ fn close<S, V>(hub: Hub, all: AllEnds<S, V>) -> (Core, Vec<ReaderEnd<S, V>>)
     let AllEnds { pass, ends } = all;
     let Ends { passes, readers } = ends;
     let core = hub.close(pass, passes);
-    core.stands();
+    core.sound();
     (core, readers)
 }
 

@@ -32,9 +32,9 @@ pub record IsRefused (reading : Reading) (bad : Bad) : Type 0 where
   pub at : bad.place ≡ reading.place + within
 
 -- no item is whole in the rest, or a rule refuses it
-abbrev pub StandsAt : Option Bad → Reading → Type 0
-StandsAt None reading = IsIdle reading
-StandsAt (Some bad) reading = IsRefused reading bad
+abbrev pub StopsWith : Option Bad → Reading → Type 0
+StopsWith None reading = IsIdle reading
+StopsWith (Some bad) reading = IsRefused reading bad
 
 -- a reader, the assembler behind it and the taker of its messages, as they stand
 pub record Feeding (T : Type 0) : Type 0 where

@@ -1,6 +1,6 @@
 //! Taking the items that are whole.
 ghost use Rattle.std.specs.Prelude.{◌≡◌, None, IfOk, IfErr, OnOk};
-ghost use Rattle.run_status.specs.MessageFeed.Serving.{GoesOn, GoesUntil, HandsOn, StandsAt, feeding};
+ghost use Rattle.run_status.specs.MessageFeed.Serving.{GoesOn, GoesUntil, HandsOn, StopsWith, feeding};
 
 use crate::message_feed::Taker;
 use crate::message_feed::halt::Halt;
@@ -14,7 +14,7 @@ pub(crate) fn take_items<T: Taker>(
 ) -> Result<Option<Bad>, Halt<T::Stop>>
     ghost first: { T }
     requires not_bad { reader.old.bad ≡ None }
-    ensures stands { IfOk result (λ bad. StandsAt bad reader.new) }
+    ensures stops { IfOk result (λ bad. StopsWith bad reader.new) }
 
     // Whatever was fed, of that the messages that are ended were taken, where it was so before.
     ensures ok { OnOk result (GoesOn (T.has_taken first) (feeding reader.old assembler.old taker.old)

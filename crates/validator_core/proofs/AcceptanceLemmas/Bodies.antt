@@ -16,7 +16,7 @@ use Rattle.journal.proofs.JournalLemmas.Different.{Differ}
 use Rattle.journal.proofs.JournalLemmas.Places.{others_differ, some_at}
 use Rattle.claim_table.specs.CoreLaws.Waking.{is_waiting}
 use Rattle.validator_core.specs.Tables.View.{View, body_of, log_of}
-use Rattle.validator_core.specs.Acceptance.Standing.{IsStanding}
+use Rattle.validator_core.specs.Acceptance.Standing.{AreSoundTables}
 use Rattle.validator_core.proofs.AcceptanceLemmas.NewBody.{low_at}
 
 -- EVENT: the body of a number whose event is given is that event's
@@ -44,7 +44,7 @@ is_below held n e event = by (slice_get held n) refl event
     by None at is = cc
 
 -- KEPT: a body keeps what its event spells
-pub kept_if : (v : View) → IsStanding v → ((event : Event) (bytes : List ℕ) → SpellsEvent event bytes → IsKept event)
+pub kept_if : (v : View) → AreSoundTables v → ((event : Event) (bytes : List ℕ) → SpellsEvent event bytes → IsKept event)
     → (n : ℕ) (o : Option Event) → o ≡ option_map (λ c. c.event) (slice_get v.held n) → IfSome o IsKept
 kept_if v is law n o event = subst (λ o. IfSome o IsKept) (sym event) (by (slice_get v.held n) refl)
   where
@@ -71,9 +71,9 @@ module _ (held : List Body) (differ : Differ same_body held) (n : ℕ) (b : Body
       let here = same_at m c.0 c.1 in
       ap (λ o. list_any (λ d. same_body d b) (cons_option o (chosen held ns))) c.1 ∙ (λ i. here i || ih i)
 
-pub accepted_is : (v : View) → IsStanding v → (n : ℕ) (b : Body) → slice_get v.held n ≡ Some b → is_in (log_of v) b ≡ list_any (λ m. m == n) v.log.numbers
+pub accepted_is : (v : View) → AreSoundTables v → (n : ℕ) (b : Body) → slice_get v.held n ≡ Some b → is_in (log_of v) b ≡ list_any (λ m. m == n) v.log.numbers
 accepted_is v is n b at = among v.held is.differ n b at v.log.numbers is.accepted_held
 
 -- WAITS
-pub waits_is : (v : View) → IsStanding v → (n : ℕ) (b : Body) → slice_get v.held n ≡ Some b → (not (is_receipt b.event) && not (list_any (λ m. m == n) v.log.numbers)) ≡ is_waiting (log_of v) b
+pub waits_is : (v : View) → AreSoundTables v → (n : ℕ) (b : Body) → slice_get v.held n ≡ Some b → (not (is_receipt b.event) && not (list_any (λ m. m == n) v.log.numbers)) ≡ is_waiting (log_of v) b
 waits_is v is n b at = ap (λ y. not (is_receipt b.event) && not y) (sym (accepted_is v is n b at))

@@ -15,7 +15,7 @@ use Rattle.claim_table.specs.ClaimTable.Rows.{has_yes_by}
 use Rattle.validator_core.specs.Tables.Names.{name_of}
 use Rattle.validator_core.specs.Tables.View.{View, log_of}
 use Rattle.validator_core.proofs.TablesLemmas.ToldClaims.{told_claims}
-use Rattle.validator_core.specs.Acceptance.Standing.{IsStanding, told_of}
+use Rattle.validator_core.specs.Acceptance.Standing.{AreSoundTables, told_of}
 use Rattle.validator_core.specs.Acceptance.Entries.{claims_of, claims_there, says_in}
 use Rattle.validator_core.proofs.AcceptanceLemmas.Verdicts.{backed_is, said_is}
 
@@ -24,7 +24,7 @@ pub any_flat : {X Y : Type 0} (test : Y → Bool) (f : X → List Y) (xs : List 
 any_flat test f [] = refl
 any_flat test f (x ∷ xs) = list_any-append test (f x) (flat_map f xs) ∙ ap (λ y. list_any test (f x) || y) (any_flat test f xs)
 
-module _ (v : View) (is : IsStanding v) (n : ℕ) (b : Body) (at : slice_get v.held n ≡ Some b) where
+module _ (v : View) (is : AreSoundTables v) (n : ℕ) (b : Body) (at : slice_get v.held n ≡ Some b) where
   -- CLAIMS: all that stand on the body came by the entries with its name
   module _ (entries : List ℕ) (rising : IsStrictlyIncreasing entries)
       (all : (i reader m : ℕ) (claims : List Claim) (c : Body) → slice_get v.entries i ≡ Some (Took reader m claims) → slice_get v.held m ≡ Some c → name_of c.event ≡ name_of b.event → Contains entries i) where

@@ -22,7 +22,7 @@ use Rattle.claim_table.proofs.CoreLawsLemmas.Supported.{supported}
 use Rattle.validator_core.specs.Tables.View.{View, log_of}
 use Rattle.validator_core.specs.Acceptance.Footing.{IsFooting}
 use Rattle.validator_core.specs.Acceptance.Parts.{has_in, table_part}
-use Rattle.validator_core.specs.Acceptance.Standing.{IsStanding, told_of}
+use Rattle.validator_core.specs.Acceptance.Standing.{AreSoundTables, told_of}
 use Rattle.validator_core.specs.declared.acceptance.footing.Footing.{Footing}
 use Rattle.validator_core.specs.declared.acceptance.footing.Footing.TheVariants.{Inception, Behind}
 use Rattle.validator_core.proofs.AcceptanceLemmas.Behind.{rules_cut}
@@ -48,7 +48,7 @@ taken_before : (log : List Body) (b : Body) (s : State) → is_inception b.event
 unfolding stands
 taken_before log b s other up before = rw (other, before) at up
 
-module _ (v : View) (is : IsStanding v) (n : ℕ) (b : Body) (at : slice_get v.held n ≡ Some b) (kept : IsKept b.event) where
+module _ (v : View) (is : AreSoundTables v) (n : ℕ) (b : Body) (at : slice_get v.held n ≡ Some b) (kept : IsKept b.event) where
   counted_as : (o : Option State) → state_before (log_of v) b ≡ o → stands (log_of v) b ≡ true → AreSound (own_rules o b.event) → is_receipt b.event ≡ false
       → counts (told_of v) (log_of v) b ≡ has_signed (has_in v.claims.rows n) o b.event
   unfolding counts

@@ -29,7 +29,7 @@ use Rattle.claim_table.specs.CoreLaws.ClaimRows.{AreFound, AreClaims, HasClaims,
 use Rattle.claim_table.proofs.CoreLawsLemmas.Steps.{has_new, has_raised, has_same}
 use Rattle.claim_table.proofs.CoreLawsLemmas.Told.{verdict_took, verdict_there}
 use Rattle.validator_core.specs.Tables.View.{View, log_of, number_of, with_rows}
-use Rattle.validator_core.specs.Acceptance.Standing.{IsHeld, IsStanding, told_of}
+use Rattle.validator_core.specs.Acceptance.Standing.{IsHeld, AreSoundTables, told_of}
 use Rattle.validator_core.specs.Acceptance.Taken.{with_entry}
 use Rattle.validator_core.proofs.AcceptanceLemmas.Taken.{took_off}
 use Rattle.validator_core.proofs.AcceptanceLemmas.Entries.{told_front, unheard_outside}
@@ -91,7 +91,7 @@ unsaid_outside v b outside key sig = none_of (verdict_in (told_of v) (triple_on 
     none_of None h = refl
     none_of (Some y) h = cc
 
-module _ (v : View) (is : IsStanding v) (reader : ℕ) (b : Body) (is_held : IsHeld b) (outside : is_in v.held b ≡ false) (claims : List Claim) where
+module _ (v : View) (is : AreSoundTables v) (reader : ℕ) (b : Body) (is_held : IsHeld b) (outside : is_in v.held b ≡ false) (claims : List Claim) where
   -- the view with the body and its entry
   abbrev pub with_body : View
   with_body = with_entry (Took reader (length v.held) claims) (record v { held = v.held ++ b ∷ [] })
@@ -118,7 +118,7 @@ module _ (v : View) (is : IsStanding v) (reader : ℕ) (b : Body) (is_held : IsH
 
   -- NEW: with the body, its entry and the rows of its claims the tables stand
   pub standing_new : is_receipt b.event ≡ false → (cs : List Claimed) → AreFound (length v.held) (state_before (log_of v) b) b.event (found_on told_then (log_of v) b) cs
-      → IsStanding (with_rows (raised_all v.claims.rows cs) with_body)
+      → AreSoundTables (with_rows (raised_all v.claims.rows cs) with_body)
   standing_new event cs are = record {
     spelled = λ m c at. last_or v.held b m c at (λ k d. IsHeld d) is_held (λ old. is.spelled m c old);
     differ = differ_push v.held b is.differ outside;

@@ -30,7 +30,7 @@ use Rattle.claim_table.specs.declared.claim_table.row.Row.{Row}
 use Rattle.claim_table.specs.CoreLaws.ClaimRows.{AreClaims, HasClaims, found_on, verdict_in}
 use Rattle.validator_core.specs.Tables.Hints.{IsEscrow}
 use Rattle.validator_core.specs.Tables.View.{View, log_of, waiter_at, waiter_of, with_log, with_rows}
-use Rattle.validator_core.specs.Acceptance.Standing.{IsStanding, told_of}
+use Rattle.validator_core.specs.Acceptance.Standing.{AreSoundTables, told_of}
 use Rattle.validator_core.specs.Acceptance.Turned.{turned}
 use Rattle.validator_core.proofs.AcceptanceLemmas.NewBody.{low_at}
 use Rattle.validator_core.proofs.AcceptanceLemmas.Turned.{turned_begins, turned_ends}
@@ -96,7 +96,7 @@ accepted_follows log before later b grown parted other =
     ap (list_any (precedes b)) parted ∙ list_any-append (precedes b) before (b ∷ later) ∙ ap (λ y. y || list_any (precedes b) (b ∷ later)) here
 
 -- so what stands right behind an event, and behind no earlier one, isn't accepted
-pub unaccepted : (v : View) → IsStanding v → (n : ℕ) (b : Body) → slice_get v.held n ≡ Some b → is_inception b.event ≡ false → predecessor (log_of v) b ≡ None → list_any (λ m. m == n) v.log.numbers ≡ false
+pub unaccepted : (v : View) → AreSoundTables v → (n : ℕ) (b : Body) → slice_get v.held n ≡ Some b → is_inception b.event ≡ false → predecessor (log_of v) b ≡ None → list_any (λ m. m == n) v.log.numbers ≡ false
 unfolding predecessor
 unaccepted v is n b at other none = elim (cases_Bool (list_any (λ m. m == n) v.log.numbers)) [
   | inr k ↦ k
@@ -105,7 +105,7 @@ unaccepted v is n b at other none = elim (cases_Bool (list_any (λ m. m == n) v.
       let no : None ≡ Some found.0 = sym none ∙ found.1 in cc)
 ]
 
-module _ (v : View) (is : IsStanding v) (m : ℕ) (c : Body) (at : slice_get v.held m ≡ Some c) (log : Log) (numbers_are : log.numbers ≡ v.log.numbers ++ m ∷ []) (is_log : IsLog (log_of v ++ c ∷ []) log) where
+module _ (v : View) (is : AreSoundTables v) (m : ℕ) (c : Body) (at : slice_get v.held m ≡ Some c) (log : Log) (numbers_are : log.numbers ≡ v.log.numbers ++ m ∷ []) (is_log : IsLog (log_of v ++ c ∷ []) log) where
   -- what is found of the bodies before the event is accepted, and then
   abbrev pub found_before : ℕ → Body → List Found
   found_before n b = found_on (told_of v) (log_of v) b
@@ -132,7 +132,7 @@ module _ (v : View) (is : IsStanding v) (m : ℕ) (c : Body) (at : slice_get v.h
   -- END: when all of the bodies right behind the event have, the tables stand
   pub standing_accepted : IsTrue (fits (log_of v) c) → (done : List ℕ) (rows : List Row) → AreTurned done rows
       → ((n : ℕ) (b : Body) → slice_get v.held n ≡ Some b → precedes b c ≡ true → predecessor (log_of v) b ≡ None → list_any (λ m. m == n) done ≡ true)
-      → IsStanding (with_rows rows (with_log log v))
+      → AreSoundTables (with_rows rows (with_log log v))
   standing_accepted fit done rows turned_all all = record {
     spelled = is.spelled;
     differ = is.differ;
@@ -159,7 +159,7 @@ module _ (v : View) (is : IsStanding v) (m : ℕ) (c : Body) (at : slice_get v.h
       ]
 
 -- WOKEN: the escrow's events behind the digest are all of these
-pub all_woken : (v : View) → IsStanding v → (waiting : Escrow) → IsEscrow waiting v.held (take v.released v.log.numbers) → (c : Body) (woken : List ℕ)
+pub all_woken : (v : View) → AreSoundTables v → (waiting : Escrow) → IsEscrow waiting v.held (take v.released v.log.numbers) → (c : Body) (woken : List ℕ)
     → ((n : ℕ) → Contains woken n ↔ Waits n (λ w. w.prior ≡ Some (said_of c.event)) waiting)
     → (n : ℕ) (b : Body) → slice_get v.held n ≡ Some b → precedes b c ≡ true → predecessor (log_of v) b ≡ None → list_any (λ m. m == n) woken ≡ true
 unfolding waiter_at

@@ -14,7 +14,7 @@ use Rattle.validator_core.specs.Tables.AcceptedLog.Cuts.{IsLog}
 use Rattle.claim_table.specs.CoreLaws.ClaimRows.{AreClaims, found_on, verdict_in}
 use Rattle.claim_table.proofs.CoreLawsLemmas.Steps.{has_new}
 use Rattle.validator_core.specs.Tables.View.{View, log_of}
-use Rattle.validator_core.specs.Acceptance.Standing.{IsHeld, IsStanding, told_of}
+use Rattle.validator_core.specs.Acceptance.Standing.{IsHeld, AreSoundTables, told_of}
 use Rattle.validator_core.proofs.AcceptanceLemmas.NewBody.{chosen_more, differ_push, last_or, length_more, unsaid_outside}
 use Rattle.validator_core.proofs.AcceptanceLemmas.Receipt.{receipt_stands}
 use Rattle.validator_core.proofs.AcceptanceLemmas.Entries.{told_front}
@@ -25,7 +25,7 @@ unfolding found_on
 receipt_found v b receipt = ap (λ y. if y then rows_of (own_rules (state_before (log_of v) b) b.event) (claims_on (told_of v) b) else []) (receipt_stands (log_of v) b receipt)
 
 -- UNFOUND: with one more body, of which nothing is found, the tables stand
-pub standing_unfound : (v : View) (is : IsStanding v) (b : Body) → IsHeld b → is_in v.held b ≡ false → found_on (told_of v) (log_of v) b ≡ [] → IsStanding (record v { held = v.held ++ b ∷ [] })
+pub standing_unfound : (v : View) (is : AreSoundTables v) (b : Body) → IsHeld b → is_in v.held b ≡ false → found_on (told_of v) (log_of v) b ≡ [] → AreSoundTables (record v { held = v.held ++ b ∷ [] })
 standing_unfound v is b is_held outside none = record {
   spelled = λ m c at. last_or v.held b m c at (λ k d. IsHeld d) is_held (λ old. is.spelled m c old);
   differ = differ_push v.held b is.differ outside;
@@ -50,7 +50,7 @@ standing_unfound v is b is_held outside none = record {
     more = has_new (state_before (log_of v)) (λ m c. found_on (told_of v) (log_of v) c) (verdict_in (told_of v)) v.held v.claims.rows b is.claims none (unsaid_outside v b outside)
 
 -- RECEIPT: with its body more the tables stand
-pub standing_body : (v : View) (is : IsStanding v) (b : Body) → IsHeld b → is_in v.held b ≡ false → is_receipt b.event ≡ true → IsStanding (record v { held = v.held ++ b ∷ [] })
+pub standing_body : (v : View) (is : AreSoundTables v) (b : Body) → IsHeld b → is_in v.held b ≡ false → is_receipt b.event ≡ true → AreSoundTables (record v { held = v.held ++ b ∷ [] })
 standing_body v is b is_held outside receipt = standing_unfound v is b is_held outside (receipt_found v b receipt)
 
 none_found : (log : List Body) (b : Body) → found_on [] log b ≡ []

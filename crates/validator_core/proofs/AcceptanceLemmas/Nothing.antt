@@ -3,9 +3,9 @@ use Rattle.validator_core.proofs.TablesLemmas.AcceptedLogLemmas.Behind.{nothing_
 use Rattle.journal.proofs.JournalLemmas.Premises.{nothing_grown}
 use Rattle.journal.specs.Journal.Journals.{chosen}
 use Rattle.validator_core.specs.Tables.View.{nothing}
-use Rattle.validator_core.specs.Acceptance.Standing.{IsStanding}
+use Rattle.validator_core.specs.Acceptance.Standing.{AreSoundTables}
 
-pub nothing_stands : IsStanding nothing
+pub nothing_stands : AreSoundTables nothing
 unfolding chosen
 nothing_stands = record {
   spelled = λ n b at. cc;

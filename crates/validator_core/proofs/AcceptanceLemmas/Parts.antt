@@ -20,7 +20,7 @@ use Rattle.claim_table.proofs.CoreLawsLemmas.Sound.{sound}
 use Rattle.claim_table.proofs.CoreLawsLemmas.Supported.{supported}
 use Rattle.validator_core.specs.Tables.View.{View, log_of}
 use Rattle.validator_core.specs.Acceptance.Parts.{has_in, table_part}
-use Rattle.validator_core.specs.Acceptance.Standing.{IsStanding, told_of}
+use Rattle.validator_core.specs.Acceptance.Standing.{AreSoundTables, told_of}
 use Rattle.validator_core.proofs.AcceptanceLemmas.ReadyRows.{first_once, part_is}
 use Rattle.validator_core.specs.Acceptance.Current.{IsOnCurrent}
 
@@ -41,7 +41,7 @@ pub record IsSupport (told : List Told) (log : List Body) (b : Body) (has : Part
   pub parts : (p : Part) → has p ≡ supports told (state log (prefix_of b.event)) b p
 
 -- ROWS: such are those of the rows
-module _ (v : View) (is : IsStanding v) (n : ℕ) (b : Body) (at : slice_get v.held n ≡ Some b) (kept : IsKept b.event)
+module _ (v : View) (is : AreSoundTables v) (n : ℕ) (b : Body) (at : slice_get v.held n ≡ Some b) (kept : IsKept b.event)
     (state_is : IfSome (state (log_of v) (prefix_of b.event)) IsState) (taken : takes (state (log_of v) (prefix_of b.event)) b.event ≡ true) where
   abbrev before : Option State
   before = state_before (log_of v) b

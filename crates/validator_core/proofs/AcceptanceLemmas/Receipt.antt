@@ -24,7 +24,7 @@ use Rattle.claim_table.specs.CoreLaws.ClaimRows.{AreClaims, HasClaims, found_on,
 use Rattle.claim_table.proofs.CoreLawsLemmas.Steps.{found_push, has_same}
 use Rattle.claim_table.proofs.CoreLawsLemmas.Told.{verdict_took}
 use Rattle.validator_core.specs.Tables.View.{View, log_of, with_rows}
-use Rattle.validator_core.specs.Acceptance.Standing.{IsStanding, told_of}
+use Rattle.validator_core.specs.Acceptance.Standing.{AreSoundTables, told_of}
 use Rattle.validator_core.specs.Acceptance.Turned.{turned}
 use Rattle.validator_core.proofs.AcceptanceLemmas.Behind.{stands_not}
 use Rattle.validator_core.specs.Acceptance.Taken.{found_by, with_entry}
@@ -55,7 +55,7 @@ receipt_has_none (c ∷ log) b receipt = let none = receipt_precedes b c receipt
 pub receipt_stands : (log : List Body) (b : Body) → is_receipt b.event ≡ true → stands log b ≡ false
 receipt_stands log b receipt = stands_not log b (receipt_kind b.event receipt).1 (receipt_has_none log b receipt)
 
-module _ (v : View) (is : IsStanding v) (reader n : ℕ) (b : Body) (at : slice_get v.held n ≡ Some b) (low : n < length v.held) (receipt : is_receipt b.event ≡ true) (claims : List Claim) where
+module _ (v : View) (is : AreSoundTables v) (reader n : ℕ) (b : Body) (at : slice_get v.held n ≡ Some b) (low : n < length v.held) (receipt : is_receipt b.event ≡ true) (claims : List Claim) where
   abbrev pub told_receipt : List Told
   told_receipt = told_of v ++ took reader b claims ∷ []
 
@@ -101,7 +101,7 @@ module _ (v : View) (is : IsStanding v) (reader n : ℕ) (b : Body) (at : slice_
   -- END: when all that the receipt speaks of have, the tables stand
   pub standing_receipt : (done : List ℕ) (rows : List Row) → AreReceipted done rows
       → ((m : ℕ) (c : Body) → slice_get v.held m ≡ Some c → is_receipt_for b c ≡ true → list_any (λ k. k == m) done ≡ true)
-      → IsStanding (with_rows rows (with_entry (Took reader n claims) v))
+      → AreSoundTables (with_rows rows (with_entry (Took reader n claims) v))
   standing_receipt done rows receipted all = record {
     spelled = is.spelled;
     differ = is.differ;

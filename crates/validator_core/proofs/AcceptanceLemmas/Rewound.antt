@@ -11,7 +11,7 @@ use Rattle.claim_table.specs.declared.claim_table.row.Row.{Row}
 use Rattle.claim_table.specs.ClaimTable.Rows.{raised, raised_all}
 use Rattle.claim_table.specs.ClaimTable.Table.{KeepsPending}
 use Rattle.validator_core.specs.Tables.View.{View, IsCut, mark_of, number_of, rewound, with_rows}
-use Rattle.validator_core.specs.Acceptance.Standing.{Extends, IsStanding}
+use Rattle.validator_core.specs.Acceptance.Standing.{Extends, AreSoundTables}
 use Rattle.validator_core.specs.Acceptance.Taken.{with_entry}
 
 -- the front of a front is a front
@@ -36,7 +36,7 @@ rewound_is old new more = λ i. record {
 }
 
 -- and what is left speaks of bodies that are left
-pub is_cut : (old new : View) → IsStanding old → old.released ≤ length old.log.numbers → KeepsPending (length old.claims.rows) new.claims.rows new.claims.pending → Extends old new → IsCut (mark_of old) new
+pub is_cut : (old new : View) → AreSoundTables old → old.released ≤ length old.log.numbers → KeepsPending (length old.claims.rows) new.claims.rows new.claims.pending → Extends old new → IsCut (mark_of old) new
 is_cut old new is released pending more = record {
   entries_held = subst (All (λ e. number_of e < length old.held)) (sym more.entries) (all_from (λ e. number_of e < length old.held) old.entries is.entries_held);
   accepted_held = subst (All (λ n. n < length old.held)) (sym (ap (λ l. l.numbers) more.log.back)) (all_from (λ n. n < length old.held) old.log.numbers is.accepted_held);
@@ -45,7 +45,7 @@ is_cut old new is released pending more = record {
 }
 
 -- ITSELF: nothing has come
-pub extends_itself : (v : View) → IsStanding v → Extends v v
+pub extends_itself : (v : View) → AreSoundTables v → Extends v v
 extends_itself v is = record {
   held = take-length v.held;
   entries = take-length v.entries;
@@ -71,7 +71,7 @@ raised_behind rows [] = take-length rows
 raised_behind rows (c ∷ cs) = take_front rows (raised rows c) (raised_all (raised rows c) cs) (take-append_seam rows _) (raised_behind (raised rows c) cs)
 
 -- a body, an entry, claims
-pub extends_held : (v : View) (b : Body) → IsStanding v → Extends v (record v { held = v.held ++ b ∷ [] })
+pub extends_held : (v : View) (b : Body) → AreSoundTables v → Extends v (record v { held = v.held ++ b ∷ [] })
 extends_held v b is = record { held = take-append_seam v.held (b ∷ []); entries = take-length v.entries; log = (extends_itself v is).log; rows = take-length v.claims.rows; pending = refl; released = refl }
 
 -- behind tables that extend others, an entry and claims

@@ -20,7 +20,7 @@ use Rattle.claim_table.specs.CoreLaws.ClaimRows.{AreFound, AreClaims, HasClaims,
 use Rattle.claim_table.proofs.CoreLawsLemmas.Steps.{found_push, has_raised, has_same}
 use Rattle.claim_table.proofs.CoreLawsLemmas.Told.{verdict_took}
 use Rattle.validator_core.specs.Tables.View.{View, log_of, number_of, with_rows}
-use Rattle.validator_core.specs.Acceptance.Standing.{IsStanding, told_of}
+use Rattle.validator_core.specs.Acceptance.Standing.{AreSoundTables, told_of}
 use Rattle.validator_core.specs.Acceptance.Taken.{found_by, with_entry}
 use Rattle.validator_core.proofs.AcceptanceLemmas.FoundClaims.{found_unnamed}
 
@@ -44,7 +44,7 @@ held_entry v e low below i f at = elim (cases_Bool (i == length v.entries)) [
   | inr k ↦ below i f (slice_get_before v.entries e i f (λ same. (let yes_same : (i == length v.entries) ≡ true = ap (λ m. m == length v.entries) same ∙ number_itself (length v.entries) in cc)) at)
 ]
 
-module _ (v : View) (is : IsStanding v) (reader n : ℕ) (b : Body) (at : slice_get v.held n ≡ Some b) (low : n < length v.held) (event : is_receipt b.event ≡ false) (claims : List Claim) where
+module _ (v : View) (is : AreSoundTables v) (reader n : ℕ) (b : Body) (at : slice_get v.held n ≡ Some b) (low : n < length v.held) (event : is_receipt b.event ≡ false) (claims : List Claim) where
   abbrev after : View
   after = with_entry (Took reader n claims) v
 
@@ -53,7 +53,7 @@ module _ (v : View) (is : IsStanding v) (reader n : ℕ) (b : Body) (at : slice_
 
   -- AGAIN: the claims that came with an event that is held are raised where it stands
   pub standing_again : (cs : List Claimed) → AreFound n (state_before (log_of v) b) b.event (found_by (log_of v) b claims) cs
-      → IsStanding (with_rows (raised_all v.claims.rows cs) (with_entry (Took reader n claims) v))
+      → AreSoundTables (with_rows (raised_all v.claims.rows cs) (with_entry (Took reader n claims) v))
   standing_again cs are = record {
     spelled = is.spelled;
     differ = is.differ;

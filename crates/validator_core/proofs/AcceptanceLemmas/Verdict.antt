@@ -14,12 +14,12 @@ use Rattle.claim_table.specs.CoreLaws.ClaimRows.{AreClaims, AreFound, HasClaims,
 use Rattle.claim_table.proofs.CoreLawsLemmas.Steps.{has_heard, has_same}
 use Rattle.claim_table.proofs.CoreLawsLemmas.Told.{verdict_heard, verdict_there}
 use Rattle.validator_core.specs.Tables.View.{View, log_of, with_rows}
-use Rattle.validator_core.specs.Acceptance.Standing.{IsStanding, told_of}
+use Rattle.validator_core.specs.Acceptance.Standing.{AreSoundTables, told_of}
 use Rattle.validator_core.specs.Acceptance.Taken.{with_entry}
 use Rattle.validator_core.proofs.AcceptanceLemmas.Taken.{held_entry}
 use Rattle.validator_core.proofs.AcceptanceLemmas.FoundClaims.{found_unnamed}
 
-module _ (v : View) (is : IsStanding v) (reader n : ℕ) (b : Body) (at : slice_get v.held n ≡ Some b) (low : n < length v.held) (key : Key) (sig : Sig) (verdict : Bool) where
+module _ (v : View) (is : AreSoundTables v) (reader n : ℕ) (b : Body) (at : slice_get v.held n ≡ Some b) (low : n < length v.held) (key : Key) (sig : Sig) (verdict : Bool) where
   told_after : told_of (with_entry (Heard reader n key sig verdict) v) ≡ told_of v ++ heard reader b key sig verdict ∷ []
   told_after = told_push v.held v.entries (Heard reader n key sig verdict) (heard reader b key sig verdict) (ap (λ o. option_map (λ c. heard reader c key sig verdict) o) at)
 
@@ -34,7 +34,7 @@ module _ (v : View) (is : IsStanding v) (reader n : ℕ) (b : Body) (at : slice_
 
   -- VERDICT: with its entry, and with the verdict on all rows of the signature, the tables stand
   pub standing_heard : is_raised v.claims.rows (record { body = n; key = key; sig = sig }) ≡ true → verdict_of v.claims.rows (record { body = n; key = key; sig = sig }) ≡ None
-      → IsStanding (with_rows (rows_heard (record { body = n; key = key; sig = sig }) verdict v.claims.rows) (with_entry (Heard reader n key sig verdict) v))
+      → AreSoundTables (with_rows (rows_heard (record { body = n; key = key; sig = sig }) verdict v.claims.rows) (with_entry (Heard reader n key sig verdict) v))
   standing_heard raised none = record {
     spelled = is.spelled;
     differ = is.differ;

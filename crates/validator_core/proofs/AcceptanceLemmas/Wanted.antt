@@ -17,7 +17,7 @@ use Rattle.claim_table.specs.ClaimTable.Rows.{has_yes_by}
 use Rattle.validator_core.specs.Tables.Names.{name_of}
 use Rattle.validator_core.specs.Tables.View.{View, log_of}
 use Rattle.validator_core.specs.Acceptance.Parts.{has_in}
-use Rattle.validator_core.specs.Acceptance.Standing.{IsStanding, told_of}
+use Rattle.validator_core.specs.Acceptance.Standing.{AreSoundTables, told_of}
 use Rattle.validator_core.specs.Acceptance.Current.{IsOnCurrent}
 use Rattle.validator_core.specs.Acceptance.Entries.{claims_of, says_in}
 use Rattle.validator_core.specs.Acceptance.Wants.{wants, wants_by}
@@ -25,7 +25,7 @@ use Rattle.validator_core.proofs.AcceptanceLemmas.Claims.{entries_support}
 use Rattle.validator_core.proofs.AcceptanceLemmas.Enough.{wants_are}
 use Rattle.validator_core.proofs.AcceptanceLemmas.Parts.{rows_support}
 
-module _ (v : View) (is : IsStanding v) (mode : Mode) (n : ℕ) (b : Body) (at : slice_get v.held n ≡ Some b) (kept : IsKept b.event) (s : Option State) (state_is : IfSome s IsState)
+module _ (v : View) (is : AreSoundTables v) (mode : Mode) (n : ℕ) (b : Body) (at : slice_get v.held n ≡ Some b) (kept : IsKept b.event) (s : Option State) (state_is : IfSome s IsState)
     (current : s ≡ state (log_of v) (prefix_of b.event)) (taken : takes s b.event ≡ true) where
   pub rows_wanting : IsOnCurrent (log_of v) b → wants_by mode (has_in v.claims.rows n) s b.event (anchored (log_of v) s b.event) ≡ wants mode (told_of v) (log_of v) s b
   rows_wanting on =

@@ -18,7 +18,7 @@ use Rattle.claim_table.proofs.CoreLawsLemmas.Entries.{ready_waits}
 use Rattle.claim_table.proofs.CoreLawsLemmas.Members.{find_some}
 use Rattle.validator_core.specs.Tables.View.{View, log_of}
 use Rattle.validator_core.specs.Acceptance.ReadyRuns.{AcceptsReady, KeepsTold, counted_on}
-use Rattle.validator_core.specs.Acceptance.Standing.{Extends, IsStanding, told_of}
+use Rattle.validator_core.specs.Acceptance.Standing.{Extends, AreSoundTables, told_of}
 use Rattle.validator_core.proofs.AcceptanceLemmas.Rewound.{extends_then}
 use Rattle.validator_core.specs.TableChanges.ReadyEvents.{AcceptsNext, IsNext, IsOver, LeadsTo}
 use Rattle.validator_core.proofs.TableChangesLemmas.Candidates.{both_counted, leads_append, leads_few, leads_looks, leads_run, leads_then}
@@ -44,7 +44,7 @@ module _ (mode : Mode) (start : View) (due : List ℕ) (steps : ℕ) where
   abbrev pub IsAccepting : View → List ℕ → ℕ → Type 0
   IsAccepting now left then_steps = (passed : ℕ) × (then_steps ≡ counted_on steps passed)
       × LeadsTo mode (told_of start) start.held due (log_of start) left (log_of now) passed
-      × KeepsTold start now × IsStanding now × Extends start now
+      × KeepsTold start now × AreSoundTables now × Extends start now
 
   -- runs by what is told are those by what was told, since nothing is told meanwhile
   by_start : (now : View) → KeepsTold start now → (left : List ℕ) (log : List Body) (k : ℕ) → LeadsTo mode (told_of now) now.held due (log_of start) left log k → LeadsTo mode (told_of start) start.held due (log_of start) left log k
@@ -68,7 +68,7 @@ module _ (mode : Mode) (start : View) (due : List ℕ) (steps : ℕ) where
         next.steps_are ∙ ap (λ s. counted_on s (next.passed + 1)) is.1 ∙ both_counted steps is.0 (next.passed + 1) ∙ ap (counted_on steps) count,
         subst (λ l. LeadsTo mode (told_of start) start.held due (log_of start) more l (is.0 + next.passed + 1)) (sym took.log) back,
         record { held = took.keeps.held ∙ is.3.held; entries = took.keeps.entries ∙ is.3.entries; pending = took.keeps.pending ∙ is.3.pending; released = took.keeps.released ∙ is.3.released },
-        took.stands,
+        took.sound,
         extends_then start now w is.5 longer,
       )
 
@@ -84,5 +84,5 @@ module _ (mode : Mode) (start : View) (due : List ℕ) (steps : ℕ) where
             ∙ ap (counted_on steps) (sym (leads_looks mode (told_of start) start.held due (log_of start) log (is.0 + over.passed) all));
         frugal = leads_few mode (told_of start) start.held due (log_of start) log (is.0 + over.passed) all;
         keeps = is.3;
-        stands = is.4;
+        sound = is.4;
       }

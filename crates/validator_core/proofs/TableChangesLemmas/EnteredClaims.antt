@@ -2,7 +2,7 @@
 use Rattle.std.proofs.Common.{◌≡◌, ℕ, true, false, List, [], ◌∷◌, ◌++◌, length, Some, None, refl, sym, ◌∙◌, ap, inl, inr, subst, if◌then◌else◌}
 use Rattle.std.proofs.lemmas.Bool.{cases_Bool}
 use Rattle.std.specs.Prelude.{slice_get}
-use Rattle.validator_core.specs.Acceptance.Standing.{Comes, IsHeld, IsStanding, told_of}
+use Rattle.validator_core.specs.Acceptance.Standing.{Comes, IsHeld, AreSoundTables, told_of}
 use Rattle.validator_core.proofs.AcceptanceLemmas.NewBody.{log_body, standing_new, told_body, with_body}
 use Rattle.validator_core.specs.Acceptance.Taken.{found_by, with_entry}
 use Rattle.validator_core.proofs.AcceptanceLemmas.Taken.{standing_again, took_on}
@@ -24,16 +24,16 @@ use Rattle.validator_core.proofs.TableChangesLemmas.ReceiptClaims.{claims_there}
 
 -- the tables stand once the claims of the last entry are raised on its event
 pub stands_again : (w u : View) (number entry : ℕ) (is : IsTold number entry w) (b : Body) → slice_get w.held number ≡ Some b → is_receipt b.event ≡ false
-    → RaisesFound number b (claims_at w.held b (slice_get w.entries entry)) w u → IsStanding u
+    → RaisesFound number b (claims_at w.held b (slice_get w.entries entry)) w u → AreSoundTables u
 stands_again w u number entry is b at event raised =
     let there : slice_get is.before.held number ≡ Some b = ap (λ v. slice_get v.held number) (sym is.is) ∙ at in
     let claims = claims_there w w number entry is refl refl b there b ∙ took_on is.reader b is.claims in
     let r : RaisesFound number b is.claims (with_entry (Took is.reader number is.claims) is.before) u =
     subst (λ v. RaisesFound number b is.claims v u) is.is (subst (λ cs. RaisesFound number b cs w u) claims raised) in
-    subst IsStanding (sym r.new_is) (standing_again is.before is.stands is.reader number b there is.low event is.claims r.added r.found)
+    subst AreSoundTables (sym r.new_is) (standing_again is.before is.sound is.reader number b there is.low event is.claims r.added r.found)
 
 -- NEW: an event with its entry, once all claims on it are raised
-pub comes_new : (v mid new : View) (is : IsStanding v) (reader : ℕ) (b : Body) (is_held : IsHeld b) (outside : is_in v.held b ≡ false) (claims : List Claim) → is_receipt b.event ≡ false
+pub comes_new : (v mid new : View) (is : AreSoundTables v) (reader : ℕ) (b : Body) (is_held : IsHeld b) (outside : is_in v.held b ≡ false) (claims : List Claim) → is_receipt b.event ≡ false
     → mid ≡ with_entry (Took reader (length v.held) claims) (record v { held = v.held ++ b ∷ [] }) → RaisesFound (length v.held) b (claims_on (told_of mid) b) mid new
     → Comes (b ∷ []) (Took reader (length v.held) claims) v new
 unfolding found_on
@@ -51,7 +51,7 @@ comes_new v mid new is reader b is_held outside claims event mid_is raised =
       log = ap (λ w. w.log) r.new_is;
       pending = ap (λ w. w.claims.pending) r.new_is;
       released = ap (λ w. w.released) r.new_is;
-      stands = subst IsStanding (sym r.new_is) (standing_new v is reader b is_held outside claims event r.added found);
+      sound = subst AreSoundTables (sym r.new_is) (standing_new v is reader b is_held outside claims event r.added found);
     }
 
 -- the tables with the body of a number and its entry, which come one after the other

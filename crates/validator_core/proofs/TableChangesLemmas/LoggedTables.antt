@@ -4,7 +4,7 @@ use Rattle.std.proofs.Math.Seq.{take-length}
 use Rattle.std.specs.Prelude.{slice_get, Result, Ok, Err, OnOk, OnErr}
 use Rattle.validator_core.specs.Tables.AcceptedLog.Cuts.{IsLog}
 use Rattle.validator_core.proofs.TablesLemmas.AcceptedLogLemmas.Extensions.{extends_refl}
-use Rattle.validator_core.specs.Acceptance.Standing.{Extends, IsHeld, IsStanding}
+use Rattle.validator_core.specs.Acceptance.Standing.{Extends, IsHeld, AreSoundTables}
 use Rattle.validator_core.proofs.AcceptanceLemmas.NewBody.{chosen_more, differ_push, last_or}
 use Rattle.validator_core.proofs.AcceptanceLemmas.Rewound.{extends_claimed, extends_held, extends_told}
 use Rattle.validator_core.specs.Acceptance.Taken.{with_entry}
@@ -22,18 +22,18 @@ use Rattle.journal.specs.Journal.Logs.{is_in}
 use Rattle.validator_core.specs.TableChanges.Entries.{IsLogged, IsTold, RaisesFound}
 
 -- with one entry more
-pub logged_entry : (v : View) (e : Entry) → IsStanding v → IsLogged (with_entry e v)
+pub logged_entry : (v : View) (e : Entry) → AreSoundTables v → IsLogged (with_entry e v)
 logged_entry v e is = record { spelled = is.spelled; differ = is.differ; grown = is.grown; log = is.log }
 
 pub logged_told : (number entry : ℕ) (v : View) → IsTold number entry v → IsLogged v
-logged_told number entry v is = subst IsLogged (sym is.is) (logged_entry is.before (Took is.reader number is.claims) is.stands)
+logged_told number entry v is = subst IsLogged (sym is.is) (logged_entry is.before (Took is.reader number is.claims) is.sound)
 
 -- with other rows
 pub logged_rows : (v w : View) (rows : List Row) → w ≡ with_rows rows v → IsLogged v → IsLogged w
 logged_rows v w rows e is = subst IsLogged (sym e) (record { spelled = is.spelled; differ = is.differ; grown = is.grown; log = is.log })
 
 -- with a body and its entry more
-pub logged_body : (v : View) (b : Body) (e : Entry) → IsStanding v → IsHeld b → is_in v.held b ≡ false → IsLogged (with_entry e (record v { held = v.held ++ b ∷ [] }))
+pub logged_body : (v : View) (b : Body) (e : Entry) → AreSoundTables v → IsHeld b → is_in v.held b ≡ false → IsLogged (with_entry e (record v { held = v.held ++ b ∷ [] }))
 logged_body v b e is is_held outside =
     let same = chosen_more v.held (b ∷ []) v.log.numbers is.accepted_held in
     record {
@@ -59,7 +59,7 @@ pub extends_some : (u v w : View) (n : ℕ) → Extends u v → RaisesSome n v w
 extends_some u v w n more some = subst (Extends u) (sym some.new_is) (extends_claimed u v some.added more)
 
 -- and a body and its entry more
-pub extends_body : (v : View) (b : Body) (e : Entry) → IsStanding v → Extends v (with_entry e (record v { held = v.held ++ b ∷ [] }))
+pub extends_body : (v : View) (b : Body) (e : Entry) → AreSoundTables v → Extends v (with_entry e (record v { held = v.held ++ b ∷ [] }))
 extends_body v b e is = extends_told v (record v { held = v.held ++ b ∷ [] }) e (extends_held v b is)
 
 -- what holds whatever came

@@ -3,7 +3,7 @@ use Rattle.std.proofs.Common.{◌≡◌, ℕ, Bool, true, false, ◌&&◌, ◌==
 use Rattle.std.specs.Prelude.{slice_get}
 use Rattle.std.specs.List.{list_any}
 use Rattle.std.proofs.lemmas.Bool.{cases_Bool, and_from, and_parts}
-use Rattle.validator_core.specs.Acceptance.Standing.{IsStanding, told_of}
+use Rattle.validator_core.specs.Acceptance.Standing.{AreSoundTables, told_of}
 use Rattle.validator_core.specs.Acceptance.Turned.{turned}
 use Rattle.validator_core.proofs.AcceptanceLemmas.NewBody.{low_at}
 use Rattle.validator_core.proofs.AcceptanceLemmas.Receipt.{AreReceipted, found_before, found_then, receipt_begins, standing_receipt, told_receipt}
@@ -56,17 +56,17 @@ module _ (name : Name) (entry : ℕ) (v : View) (r : IsReceipted name entry v) w
 
   -- the rows once the bodies of some numbers have gone over
   abbrev pub AreDone : List ℕ → List Row → Type 0
-  AreDone done rows = AreReceipted r.told.before r.told.stands r.told.reader r.number r.body r.at r.told.low r.receipt r.told.claims done rows
+  AreDone done rows = AreReceipted r.told.before r.told.sound r.told.reader r.number r.body r.at r.told.low r.receipt r.told.claims done rows
 
   abbrev was : ℕ → Body → List Found
-  was = found_before r.told.before r.told.stands r.told.reader r.number r.body r.at r.told.low r.receipt r.told.claims
+  was = found_before r.told.before r.told.sound r.told.reader r.number r.body r.at r.told.low r.receipt r.told.claims
 
   abbrev now : ℕ → Body → List Found
-  now = found_then r.told.before r.told.stands r.told.reader r.number r.body r.at r.told.low r.receipt r.told.claims
+  now = found_then r.told.before r.told.sound r.told.reader r.number r.body r.at r.told.low r.receipt r.told.claims
 
   pub done_begins : AreDone [] v.claims.rows
   done_begins = subst (AreDone []) (ap (λ u. u.claims.rows) (sym r.told.is))
-      (receipt_begins r.told.before r.told.stands r.told.reader r.number r.body r.at r.told.low r.receipt r.told.claims)
+      (receipt_begins r.told.before r.told.sound r.told.reader r.number r.body r.at r.told.low r.receipt r.told.claims)
 
   module _ (w u : View) (w_is : w ≡ with_rows w.claims.rows v) (done : List ℕ) (m : ℕ) (so_far : AreDone done w.claims.rows) where
     held_is : w.held ≡ r.told.before.held
@@ -85,7 +85,7 @@ module _ (name : Name) (entry : ℕ) (v : View) (r : IsReceipted name entry v) w
         let here : now m c ≡ turned was now done m c ++ found_by old_log c (claims_in c t) =
         found_push (told_of r.told.before) t old_log c ∙ ap (λ l. l ++ found_by old_log c (claims_in c t)) (sym (ap (λ y. if y then now m c else was m c) outside)) in
         subst (AreDone (done ++ m ∷ [])) (ap (λ x. x.claims.rows) (sym raises.new_is))
-        (turned_raised was now (state_before old_log) (verdict_in (told_receipt r.told.before r.told.stands r.told.reader r.number r.body r.at r.told.low r.receipt r.told.claims)) r.told.before.held w.claims.rows done m c at so_far
+        (turned_raised was now (state_before old_log) (verdict_in (told_receipt r.told.before r.told.sound r.told.reader r.number r.body r.at r.told.low r.receipt r.told.claims)) r.told.before.held w.claims.rows done m c at so_far
         (found_by old_log c (claims_in c t)) raises.added (low_at r.told.before.held m c at) found here)
       where
         old_log : List Body
@@ -101,7 +101,7 @@ module _ (name : Name) (entry : ℕ) (v : View) (r : IsReceipted name entry v) w
         old_log = log_of r.told.before
 
         said : Triple → Option Bool
-        said = verdict_in (told_receipt r.told.before r.told.stands r.told.reader r.number r.body r.at r.told.low r.receipt r.told.claims)
+        said = verdict_in (told_receipt r.told.before r.told.sound r.told.reader r.number r.body r.at r.told.low r.receipt r.told.claims)
 
         apart : (n : ℕ) (c : Body) → slice_get r.told.before.held n ≡ Some c → (m == n) ≡ false
         apart n c there = elim (cases_Bool (m == n)) [
@@ -121,7 +121,7 @@ module _ (name : Name) (entry : ℕ) (v : View) (r : IsReceipted name entry v) w
 
   -- END: when all of the name have, the tables stand
   pub done_ends : (w : View) → w ≡ with_rows w.claims.rows v → (done : List ℕ) → AreDone done w.claims.rows
-      → ((n : ℕ) (c : Body) → slice_get v.held n ≡ Some c → name_of c.event ≡ name → Contains done n) → IsStanding w
-  done_ends w w_is done so_far all = subst IsStanding (sym (w_is ∙ ap (with_rows w.claims.rows) r.told.is))
-      (standing_receipt r.told.before r.told.stands r.told.reader r.number r.body r.at r.told.low r.receipt r.told.claims done w.claims.rows so_far
+      → ((n : ℕ) (c : Body) → slice_get v.held n ≡ Some c → name_of c.event ≡ name → Contains done n) → AreSoundTables w
+  done_ends w w_is done so_far all = subst AreSoundTables (sym (w_is ∙ ap (with_rows w.claims.rows) r.told.is))
+      (standing_receipt r.told.before r.told.sound r.told.reader r.number r.body r.at r.told.low r.receipt r.told.claims done w.claims.rows so_far
       (λ m c there right. member_any (λ k. k == m) done m (all m c (ap (λ x. slice_get x.held m) r.told.is ∙ there) (names_it r.body c right ∙ sym r.name_is)) (number_itself m)))

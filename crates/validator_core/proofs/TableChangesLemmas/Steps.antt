@@ -16,7 +16,7 @@ use Rattle.validator_core.specs.Tables.AcceptedLog.Values.{Log, established, gon
 use Rattle.validator_core.proofs.TablesLemmas.AcceptedLogLemmas.StateSteps.{GoesOnto, fits_parts, goes_onto}
 use Rattle.claim_table.specs.declared.claim_table.row.Row.{Row}
 use Rattle.validator_core.specs.Tables.View.{View, log_of, with_log, with_rows}
-use Rattle.validator_core.specs.Acceptance.Standing.{Extends, IsStanding}
+use Rattle.validator_core.specs.Acceptance.Standing.{Extends, AreSoundTables}
 use Rattle.validator_core.proofs.AcceptanceLemmas.NewEvent.{log_then}
 use Rattle.validator_core.specs.TableChanges.Entries.{IsLogged}
 use Rattle.journal.proofs.JournalLemmas.Keeping.{IsGrown-push}
@@ -92,7 +92,7 @@ extends_log v w log new longer = subst (λ (x : View). Extends v x) (sym new) (r
 })
 
 -- LOGGED: with the event the log is grown
-pub logged_appended : (v w : View) (number : ℕ) (b : Body) → IsStanding v → slice_get v.held number ≡ Some b → IsTrue (fits (log_of v) b) → IsAppended b number v w → IsLogged w
+pub logged_appended : (v w : View) (number : ℕ) (b : Body) → AreSoundTables v → slice_get v.held number ≡ Some b → IsTrue (fits (log_of v) b) → IsAppended b number v w → IsLogged w
 logged_appended v w number b is at fit new =
     let same = log_then v is number b at new.log new.numbers new.is_log in
     subst IsLogged (sym new.new_is) (record {

@@ -12,7 +12,7 @@ use Rattle.journal.specs.EventRules.Parts.{Row as Found}
 use Rattle.claim_table.specs.ClaimTable.Rows.{raised_all}
 use Rattle.claim_table.specs.CoreLaws.ClaimRows.{AreFound, HasClaims, found_on, verdict_in}
 use Rattle.validator_core.specs.Tables.View.{View, log_of, with_log, with_rows}
-use Rattle.validator_core.specs.Acceptance.Standing.{Accepts, IsStanding, told_of}
+use Rattle.validator_core.specs.Acceptance.Standing.{Accepts, AreSoundTables, told_of}
 use Rattle.validator_core.specs.Acceptance.Turned.{turned}
 use Rattle.validator_core.proofs.AcceptanceLemmas.Behind.{stands_not}
 use Rattle.validator_core.proofs.AcceptanceLemmas.NewBody.{low_at}
@@ -42,7 +42,7 @@ module _ (v : View) (c : Body) (done : List ℕ) (w : View) (t : IsTurning v c d
   held_is = ap (λ (u : View). u.held) t.new_is
 
   pub log_is : log_of w ≡ log_of v ++ c ∷ []
-  log_is = ap log_of t.new_is ∙ log_then v t.stands t.number c t.at t.log t.numbers t.is_log
+  log_is = ap log_of t.new_is ∙ log_then v t.sound t.number c t.at t.log t.numbers t.is_log
 
   -- the place of the last
   last_is : (place : ℕ) → place + 1 ≡ length (log_of w) → place ≡ length (log_of v)
@@ -65,7 +65,7 @@ module _ (v : View) (c : Body) (done : List ℕ) (w : View) (t : IsTurning v c d
     IsDone u = IsTurning v c (done ++ n ∷ []) u
 
     kept : ((predecessor (log_of v) b ≡ None) → precedes b c ≡ false) → after n b ≡ before n b
-    kept other = turning_stays v t.stands t.number c t.at t.log t.numbers t.is_log n b other
+    kept other = turning_stays v t.sound t.number c t.at t.log t.numbers t.is_log n b other
 
     -- the same is found of it as before
     stays : (IsBehindLast (log_of w) b → ⊥) → after n b ≡ before n b
@@ -83,7 +83,7 @@ module _ (v : View) (c : Body) (done : List ℕ) (w : View) (t : IsTurning v c d
     -- PASSED: it isn't the new event that it stands on
     pub passed : (IsBehindLast (log_of w) b → ⊥) → IsDone w
     passed not_new = record {
-      stands = t.stands;
+      sound = t.sound;
       number = t.number;
       at = t.at;
       fit = t.fit;
@@ -97,7 +97,7 @@ module _ (v : View) (c : Body) (done : List ℕ) (w : View) (t : IsTurning v c d
     -- RAISED: it is, and all claims on it are raised
     pub raised : IsBehindLast (log_of w) b → (u : View) → RaisesFound n b (claims_on (told_of w) b) w u → IsDone u
     raised new_on u raises = record {
-      stands = t.stands;
+      sound = t.sound;
       number = t.number;
       at = t.at;
       fit = t.fit;
@@ -130,9 +130,9 @@ module _ (v : View) (c : Body) (done : List ℕ) (w : View) (t : IsTurning v c d
         all_new = ap (λ l. l ++ after n b) (sym (was ∙ nothing_before))
 
 -- BEGIN: the event is last in the log
-pub turning : (v : View) (c : Body) (number : ℕ) (w : View) → IsStanding v → slice_get v.held number ≡ Some c → IsTrue (fits (log_of v) c) → IsAppended c number v w → IsTurning v c [] w
+pub turning : (v : View) (c : Body) (number : ℕ) (w : View) → AreSoundTables v → slice_get v.held number ≡ Some c → IsTrue (fits (log_of v) c) → IsAppended c number v w → IsTurning v c [] w
 turning v c number w stands at fit is = record {
-  stands = stands;
+  sound = stands;
   number = number;
   at = at;
   fit = fit;
@@ -153,5 +153,5 @@ accepted v c done w t all = record {
   log = log_is v c done w t;
   pending = ap (λ (x : View). x.claims.pending) t.new_is;
   released = ap (λ (x : View). x.released) t.new_is;
-  stands = subst IsStanding (sym t.new_is) (standing_accepted v t.stands t.number c t.at t.log t.numbers t.is_log t.fit done w.claims.rows t.claims all);
+  sound = subst AreSoundTables (sym t.new_is) (standing_accepted v t.sound t.number c t.at t.log t.numbers t.is_log t.fit done w.claims.rows t.claims all);
 }

@@ -1,6 +1,6 @@
 -- A verdict comes, or is taken back.
 use Rattle.std.proofs.Common.{◌≡◌, ℕ, ◌<◌, Bool, true, [], ◌∷◌, ◌++◌, length, Some, None, sym, ◌∙◌, ap, subst}
-use Rattle.validator_core.specs.Acceptance.Standing.{Hears, IsStanding}
+use Rattle.validator_core.specs.Acceptance.Standing.{Hears, AreSoundTables}
 use Rattle.validator_core.specs.Acceptance.Taken.{with_entry}
 use Rattle.validator_core.proofs.AcceptanceLemmas.Verdict.{standing_heard}
 use Rattle.claim_table.specs.ClaimTable.Table.{Table}
@@ -12,7 +12,7 @@ use Rattle.journal.proofs.JournalLemmas.Places.{some_at}
 use Rattle.validator_core.specs.TableChanges.Entries.{signature_asked}
 
 -- whatever signature is pending, the tables stand
-stands_pending : (v : View) (claims : Table) → IsStanding (with_rows claims.rows v) → IsStanding (with_claims claims v)
+stands_pending : (v : View) (claims : Table) → AreSoundTables (with_rows claims.rows v) → AreSoundTables (with_claims claims v)
 stands_pending v claims is = record {
   spelled = is.spelled;
   differ = is.differ;
@@ -27,7 +27,7 @@ module _ (old h : View) (q : Question) (yes : Bool)
     (h_is : h ≡ with_claims (record { rows = heard (signature_asked q) yes old.claims.rows; pending = Some (signature_asked q) }) old)
     (back : unheard (signature_asked q) h.claims.rows ≡ old.claims.rows) where
   -- HEARD: with its entry
-  pub hears : (reader : ℕ) (new : View) → IsStanding old → q.body < length old.held → is_raised old.claims.rows (signature_asked q) ≡ true → verdict_of old.claims.rows (signature_asked q) ≡ None
+  pub hears : (reader : ℕ) (new : View) → AreSoundTables old → q.body < length old.held → is_raised old.claims.rows (signature_asked q) ≡ true → verdict_of old.claims.rows (signature_asked q) ≡ None
       → new ≡ record h { entries = h.entries ++ Heard reader q.body q.key q.sig yes ∷ [] } → Hears (signature_asked q) yes reader old new
   hears reader new is low raised none new_is =
       let b = some_at old.held q.body low in
@@ -37,7 +37,7 @@ module _ (old h : View) (q : Question) (yes : Bool)
       record {
         is = now;
         back = ap (λ v. unheard (signature_asked q) v.claims.rows) new_is ∙ back;
-        stands = subst IsStanding (sym now) (stands_pending (with_entry e old) (record { rows = heard (signature_asked q) yes old.claims.rows; pending = Some (signature_asked q) })
+        sound = subst AreSoundTables (sym now) (stands_pending (with_entry e old) (record { rows = heard (signature_asked q) yes old.claims.rows; pending = Some (signature_asked q) })
             (standing_heard old is reader q.body b.0 b.1 low q.key q.sig yes raised none));
       }
 

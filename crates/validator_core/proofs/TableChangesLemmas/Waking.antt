@@ -22,7 +22,7 @@ use Rattle.journal.proofs.JournalLemmas.Accepting.{same_body-refl}
 use Rattle.journal.proofs.JournalLemmas.Settling.{outside}
 use Rattle.key_state.proofs.Same.{numbers}
 use Rattle.claim_table.specs.CoreLaws.Waking.{holds_first_seal, is_anchored, is_there, is_waiting, may_wake, seals_first, wakes}
-use Rattle.validator_core.specs.Acceptance.Standing.{IsStanding}
+use Rattle.validator_core.specs.Acceptance.Standing.{AreSoundTables}
 use Rattle.validator_core.proofs.AcceptanceLemmas.NewEvent.{precedes_some}
 use Rattle.validator_core.specs.Tables.Hints.{IsEscrow}
 use Rattle.validator_core.specs.Tables.View.{View, body_of, log_of, waiter_at, waiter_of}
@@ -131,7 +131,7 @@ waiter_some : (mode : Mode) (log : List Body) (c : Body) (o : Option Body) → i
 waiter_some mode log c None h = cc
 waiter_some mode log c (Some b) h = (b, refl, h)
 
-pub woken_next : (mode : Mode) (v w : View) (number : ℕ) (b : Body) → slice_get v.held number ≡ Some b → w.held ≡ v.held → log_of w ≡ log_of v ++ b ∷ [] → IsStanding w
+pub woken_next : (mode : Mode) (v w : View) (number : ℕ) (b : Body) → slice_get v.held number ≡ Some b → w.held ≡ v.held → log_of w ≡ log_of v ++ b ∷ [] → AreSoundTables w
     → (n : ℕ) → is_awaited_there mode (log_of v) (slice_get v.held number) (slice_get v.held n) ≡ true → IsNextAt mode w n
     → (d : Body) × (slice_get v.held n ≡ Some d) × (wakes mode (log_of v) b d ≡ true)
 woken_next mode v w number b at held log stands n awaits next =

@@ -20,7 +20,7 @@ use Rattle.journal.proofs.JournalLemmas.Different.{Differ}
 use Rattle.journal.proofs.JournalLemmas.Places.{one_body, one_place}
 use Rattle.key_state.specs.Same.{same_digest, same_prefix}
 use Rattle.key_state.proofs.Same.{number_itself, numbers, same_prefix_is}
-use Rattle.validator_core.specs.Tables.EntryClaims.{came_to, is_receipt_of, stands_on}
+use Rattle.validator_core.specs.Tables.EntryClaims.{came_to, is_receipt_of, bears_on}
 use Rattle.validator_core.specs.Tables.Names.{name_of}
 use Rattle.validator_core.specs.Tables.Raised.{claims_at, claims_of}
 use Rattle.validator_core.proofs.TablesLemmas.GatheredLists.{flat_map-filter_map, flat_map-numbers}
@@ -64,17 +64,17 @@ module _ (held : List Body) (apart : Differ same_body held) (n : ℕ) (b : Body)
 
   module _ (events : List Event) (same : (m : ℕ) → slice_get events m ≡ option_map (λ c. c.event) (slice_get held m)) where
     took_is : (m reader : ℕ) (claims : List Claim) (o : Option Body) → slice_get held m ≡ o
-        → (if stands_on events m n then claims else []) ≡ claims_of b (option_map (λ c. took reader c claims) o)
+        → (if bears_on events m n then claims else []) ≡ claims_of b (option_map (λ c. took reader c claims) o)
     took_is m reader claims None none = elim (cases_Bool (m == n)) [
       | inl k ↦ absurd (not_some b (sym none ∙ ap (slice_get held) (numbers m n k) ∙ at))
       | inr k ↦ (let missing : slice_get events m ≡ None = same m ∙ ap (option_map (λ c. c.event)) none in
-          let no : stands_on events m n ≡ false = λ i. k i || is_receipt_of (missing i) (slice_get events n) in rw no refl)
+          let no : bears_on events m n ≡ false = λ i. k i || is_receipt_of (missing i) (slice_get events n) in rw no refl)
     ]
     took_is m reader claims (Some c) there =
         let own = same_number m c there in
         let one : slice_get events m ≡ Some c.event = same m ∙ ap (option_map (λ c. c.event)) there in
         let other : slice_get events n ≡ Some b.event = same n ∙ ap (option_map (λ c. c.event)) at in
-        let stands : stands_on events m n ≡ (same_body c b || is_receipt_for c b) = λ i. own i || is_receipt_of (one i) (other i) in
+        let stands : bears_on events m n ≡ (same_body c b || is_receipt_for c b) = λ i. own i || is_receipt_of (one i) (other i) in
         ap (λ t. if t then claims else []) stands
 
     -- CAME: the claims of an entry that stand on the body of a number are those that it tells

@@ -13,7 +13,7 @@ use Rattle.event_body.specs.EventBody.Events.{is_receipt, prefix_of}
 use Rattle.keri_outside.specs.declared.limits.Limits.{Limits}
 use Rattle.key_state.specs.Same.{distinct}
 use Rattle.key_state.specs.States.{State}
-use Rattle.validator_core.specs.Acceptance.Standing.{Accepts, IsHeld, IsStanding, told_of}
+use Rattle.validator_core.specs.Acceptance.Standing.{Accepts, IsHeld, AreSoundTables, told_of}
 use Rattle.validator_core.proofs.AcceptanceLemmas.NewBody.{chosen_more}
 use Rattle.validator_core.proofs.AcceptanceLemmas.NewReceipt.{standing_unfound, untold_found}
 use Rattle.validator_core.proofs.AcceptanceLemmas.Nothing.{nothing_stands}
@@ -69,11 +69,11 @@ module _ (v : View) (all : AreAccepted v) (b : Body) (is_held : IsHeld b) (fitti
   pushed = record v { held = v.held ++ b ∷ [] }
 
   -- PUSHED: with its body the tables stand, and it fits behind the log
-  pub stands_pushed : IsStanding pushed
-  stands_pushed = standing_unfound v all.stands b is_held (fit_outside v.held b fitting) (untold_found v b all.untold)
+  pub stands_pushed : AreSoundTables pushed
+  stands_pushed = standing_unfound v all.sound b is_held (fit_outside v.held b fitting) (untold_found v b all.untold)
 
   log_same : log_of pushed ≡ v.held
-  log_same = chosen_more v.held (b ∷ []) v.log.numbers all.stands.accepted_held ∙ all.all
+  log_same = chosen_more v.held (b ∷ []) v.log.numbers all.sound.accepted_held ∙ all.all
 
   pub fits_pushed : (number : ℕ) → number ≡ length v.held → (c : Body) → slice_get pushed.held number ≡ Some c → IsTrue (fits (log_of pushed) c)
   fits_pushed number is c at =
@@ -90,7 +90,7 @@ module _ (v : View) (all : AreAccepted v) (b : Body) (is_held : IsHeld b) (fitti
     fitting = fitting;
     held = made.held;
     accepted = record {
-      stands = made.stands;
+      sound = made.sound;
       untold = made.entries ∙ all.untold;
       idle = made.pending ∙ all.idle;
       all = made.log ∙ ap (λ l. l ++ b ∷ []) log_same ∙ sym made.held;
@@ -101,7 +101,7 @@ module _ (v : View) (all : AreAccepted v) (b : Body) (is_held : IsHeld b) (fitti
 pub nothing_base : IsBase [] nothing
 unfolding chosen
 nothing_base = record {
-  accepted = record { stands = nothing_stands; untold = refl; idle = refl; all = refl };
+  accepted = record { sound = nothing_stands; untold = refl; idle = refl; all = refl };
   log = record { reading = record { bytes_are = refl; spelled = λ k d h. absurd (omega (arith, h)) }; fit = refl };
 }
 
@@ -165,7 +165,7 @@ module _ (mode : Mode) (limits : Limits) (texts : List (List ℕ)) (v : View) (b
   same_told = let none = base.accepted.untold in sym (ap (told_by v.held) none ∙ told_nothing v.held)
 
   same_bodies : bodies v.held [] ≡ v.held
-  same_bodies = bodies_untold v.held base.accepted.stands.differ
+  same_bodies = bodies_untold v.held base.accepted.sound.differ
 
   tally_base : IsTally counted v.held []
   tally_base = record { messages = refl; body_bytes = ap bytes_of (sym same_bodies); signatures = refl }
@@ -175,7 +175,7 @@ module _ (mode : Mode) (limits : Limits) (texts : List (List ℕ)) (v : View) (b
 
   pub base_core : IsCore mode limits (length texts) v counted
   base_core = record {
-    stands = base.accepted.stands;
+    sound = base.accepted.sound;
     idle = base.accepted.idle;
     left = left;
     based = (let long = base_length texts v base in omega (arith, long));
@@ -208,14 +208,14 @@ held_unfit held n b event at = let inside = any_at (λ c. same_body c b) held n 
 
 -- where all bodies are accepted, the current state of an identifier is that of the bodies
 pub state_held : (v : View) → AreAccepted v → (prefix : Prefix) (s : Option State) → s ≡ last_of prefix v.log.states → s ≡ state v.held prefix
-state_held v all prefix s is = is ∙ all.stands.log.current prefix ∙ (let same = all.all in λ i. state (same i) prefix)
+state_held v all prefix s is = is ∙ all.sound.log.current prefix ∙ (let same = all.all in λ i. state (same i) prefix)
 
 -- SETTLED: once the accepted events have left the escrow
 pub released_base : (texts : List (List ℕ)) (v : View) (n : ℕ) → IsBase texts v → IsBase texts (record v { released = n })
 released_base texts v n base =
-    let s = base.accepted.stands in record {
+    let s = base.accepted.sound in record {
       accepted = record {
-        stands = record {
+        sound = record {
           spelled = s.spelled;
           differ = s.differ;
           entries_held = s.entries_held;

@@ -68,9 +68,9 @@ module _ (mode : Mode) (limits : Limits) (base : ℕ) (old : View) (tally : Tall
         let comes = adds.brings.comes in
         let held = comes.held ∙ append-nil old.held in
         looks_accepted new between adds.before tally_then core_then number steps steps_then adds.brings.accepts (took reader b claims) b (ap (λ hs. slice_get hs number) held ∙ at)
-        (told_then old between core.stands [] (Took reader number claims) comes (took reader b claims) whole_again)
+        (told_then old between core.sound [] (Took reader number claims) comes (took reader b claims) whole_again)
         (held ∙ core.in_order ∙ sym (bodies_old bs told reader b claims inside))
-        (log_then old between core.stands [] (Took reader number claims) comes (took reader b claims) whole_again)
+        (log_then old between core.sound [] (Took reader number claims) comes (took reader b claims) whole_again)
         (ap (λ (v : View). v.held) adds.new_is) (ap (λ (v : View). log_of v) adds.new_is)
 
   -- NEW: a body came first
@@ -86,9 +86,9 @@ module _ (mode : Mode) (limits : Limits) (base : ℕ) (old : View) (tally : Tall
         let order = core.in_order in
         let longer : bodies bs (told ++ took reader b claims ∷ []) ≡ old.held ++ b ∷ [] = bodies_new bs told reader b claims (ap (λ hs. is_in hs b) (sym order) ∙ outside) ∙ ap (λ hs. hs ++ b ∷ []) (sym order) in
         looks_accepted new between adds.before tally_then core_then (length old.held) steps steps_then adds.brings.accepts (took reader b claims) b (ap (λ hs. slice_get hs (length old.held)) comes.held ∙ slice_get_last old.held b)
-        (told_then old between core.stands (b ∷ []) (Took reader (length old.held) claims) comes (took reader b claims) whole_new)
+        (told_then old between core.sound (b ∷ []) (Took reader (length old.held) claims) comes (took reader b claims) whole_new)
         (comes.held ∙ sym longer)
-        (log_then old between core.stands (b ∷ []) (Took reader (length old.held) claims) comes (took reader b claims) whole_new)
+        (log_then old between core.sound (b ∷ []) (Took reader (length old.held) claims) comes (took reader b claims) whole_new)
         (ap (λ (v : View). v.held) adds.new_is) (ap (λ (v : View). log_of v) adds.new_is)
 
   -- VERDICT: one was heard on an open question

@@ -13,7 +13,7 @@ use Rattle.escrow.specs.Escrow.Escrow.{Escrow, Waits}
 use Rattle.escrow.specs.declared.escrow.waiter.Waiter.{Waiter}
 use Rattle.event_body.specs.EventBody.Events.{is_receipt, prefix_of, said_of, sn_of}
 use Rattle.key_state.specs.Same.{same_digest, same_prefix}
-use Rattle.validator_core.specs.Acceptance.Standing.{IsStanding}
+use Rattle.validator_core.specs.Acceptance.Standing.{AreSoundTables}
 use Rattle.claim_table.proofs.CoreLawsLemmas.States.{same_digest_is, same_itself}
 use Rattle.claim_table.specs.CoreLaws.Waking.{is_waiting}
 use Rattle.validator_core.specs.Tables.Hints.{IsEscrow}
@@ -44,7 +44,7 @@ out_of done n (Some b) w e = elim (cases_Bool (is_receipt b.event || list_any (�
   | inr k ↦ (let some : Some (waiter_of n b.event) ≡ Some w = rw k at e in (b, refl, sym (some_is (waiter_of n b.event) w some), k))
 ]
 
-module _ (v : View) (stands : IsStanding v) (number : ℕ) where
+module _ (v : View) (stands : AreSoundTables v) (number : ℕ) where
   module _ (c : Body) (at_c : slice_get v.held number ≡ Some c) where
     -- what an entry of a body names has the digest that the body names
     named_said : (m n : ℕ) (d b : Body) → m ≡ number → slice_get v.held m ≡ Some d → slice_get v.held n ≡ Some b → (same_body d b || is_receipt_for d b) ≡ true → said_of c.event ≡ said_of b.event

@@ -3,7 +3,7 @@ use Rattle.std.proofs.Common.{◌≡◌, ℕ, ◌+◌, ◌<◌, ◌≤◌, Bool,
 use Rattle.std.specs.Prelude.{slice_get, take}
 use Rattle.std.proofs.lemmas.List.Sums.{sum_by-append}
 use Rattle.validator_core.specs.Acceptance.ReadyRuns.{KeepsTold}
-use Rattle.validator_core.specs.Acceptance.Standing.{IsHeld, IsStanding, told_of}
+use Rattle.validator_core.specs.Acceptance.Standing.{IsHeld, AreSoundTables, told_of}
 use Rattle.validator_core.proofs.AcceptanceLemmas.Nothing.{nothing_stands}
 use Rattle.claim_table.proofs.CoreLawsLemmas.Entries.{all_from, none_ready}
 use Rattle.claim_table.specs.CoreLaws.ClaimRows.{triple_on}
@@ -32,7 +32,7 @@ use Rattle.std.specs.List.{list_any}
 use Rattle.validator_core.specs.declared.validator_core.tally.Tally.{Tally}
 use Rattle.validator_core.specs.ValidatorCore.Tables.{AddsEntry, AddsVerdict, IsCore, base_in}
 use Rattle.validator_core.specs.ValidatorCore.Tally.{IsTally, tally_with}
-use Rattle.validator_core.specs.ValidatorCore.View.{CoreView, Stands, bytes_of}
+use Rattle.validator_core.specs.ValidatorCore.View.{CoreView, IsSoundCore, bytes_of}
 use Rattle.validator_core.proofs.ValidatorCoreLemmas.Bodies.{bodies_heard, bodies_new, bodies_old}
 use Rattle.validator_core.proofs.ValidatorCoreLemmas.Counts.{HasRoom, tally_heard, tally_took, within_heard, within_took}
 use Rattle.validator_core.proofs.ValidatorCoreLemmas.Entries.{accepted_heard, accepted_took, base_then, log_then, told_then}
@@ -57,13 +57,13 @@ module _ (mode : Mode) (limits : Limits) (base : ℕ) where
   seen v = record { mode = mode; limits = limits; base = base; held = v.held; entries = v.entries; accepted = v.log.numbers }
 
   -- STANDS: what is true of the tables is what callers know
-  pub stands_seen : (v : View) (tally : Tally) → IsCore mode limits base v tally → Stands (seen v)
+  pub stands_seen : (v : View) (tally : Tally) → IsCore mode limits base v tally → IsSoundCore (seen v)
   stands_seen v tally core =
       let order = core.in_order in
       record {
-        spelled = all_from IsHeld v.held core.stands.spelled;
+        spelled = all_from IsHeld v.held core.sound.spelled;
         in_order = core.in_order;
-        all_held = told_count v.held v.entries core.stands.entries_held;
+        all_held = told_count v.held v.entries core.sound.entries_held;
         regular = core.regular;
         within = core.within;
         settled = all_from (λ b. is_ready mode (told_of v) (accepted mode (base_in base v) (told_of v)) b ≡ false) v.held
@@ -71,7 +71,7 @@ module _ (mode : Mode) (limits : Limits) (base : ℕ) where
       }
 
   -- what is true of tables is true of those with the same lists
-  same_stands : (v : View) (pending : Option Signature) (released : ℕ) → IsStanding v → IsStanding (record v { claims = record { rows = v.claims.rows; pending = pending }; released = released })
+  same_stands : (v : View) (pending : Option Signature) (released : ℕ) → AreSoundTables v → AreSoundTables (record v { claims = record { rows = v.claims.rows; pending = pending }; released = released })
   same_stands v pending released is = record {
     spelled = is.spelled;
     differ = is.differ;
@@ -83,7 +83,7 @@ module _ (mode : Mode) (limits : Limits) (base : ℕ) where
   }
 
   -- CORE: tables that tell this, and accept what is accepted of it, once the accepted events have left
-  module _ (v : View) (tally : Tally) (bs : List Body) (ts : List Told) (stands : IsStanding v) (based : base ≤ length v.held) (base_is : take base v.held ≡ bs) (told_is : told_of v ≡ ts)
+  module _ (v : View) (tally : Tally) (bs : List Body) (ts : List Told) (stands : AreSoundTables v) (based : base ≤ length v.held) (base_is : take base v.held ≡ bs) (told_is : told_of v ≡ ts)
       (order : v.held ≡ bodies bs ts) (log : log_of v ≡ accepted mode bs ts) (regular : IsRegular mode bs ts) (tallied : IsTally tally bs ts)
       (within : bytes_of bs ≤ limits.body_bytes → IsWithin limits bs ts) where
     pub core_of_parts : IsCore mode limits base (with_claims (record { rows = v.claims.rows; pending = None }) (record v { released = length v.log.numbers })) tally
@@ -91,7 +91,7 @@ module _ (mode : Mode) (limits : Limits) (base : ℕ) where
         let b = sym base_is in
         let t = sym told_is in
         record {
-          stands = same_stands v None (length v.log.numbers) stands;
+          sound = same_stands v None (length v.log.numbers) stands;
           idle = refl;
           left = refl;
           based = based;
@@ -123,7 +123,7 @@ module _ (mode : Mode) (limits : Limits) (base : ℕ) where
       is_whole = let same = append-nil old.held in rw (same, at) refl
 
       mid_told : told_of adds.brings.between ≡ told ++ told_b ∷ []
-      mid_told = told_then old adds.brings.between core.stands [] (Took reader number claims) adds.brings.comes told_b is_whole
+      mid_told = told_then old adds.brings.between core.sound [] (Took reader number claims) adds.brings.comes told_b is_whole
 
       mid_held : adds.brings.between.held ≡ old.held
       mid_held = adds.brings.comes.held ∙ append-nil old.held
@@ -144,12 +144,12 @@ module _ (mode : Mode) (limits : Limits) (base : ℕ) where
       sum_same = ap bytes_of order_then ∙ omega arith
 
       core_before : IsCore mode limits base (with_claims (record { rows = adds.before.claims.rows; pending = None }) (record adds.before { released = length adds.before.log.numbers })) (tally_with tally 0 (length claims))
-      core_before = core_of_parts adds.before (tally_with tally 0 (length claims)) bs (told ++ told_b ∷ []) adds.brings.accepts.ready.stands
+      core_before = core_of_parts adds.before (tally_with tally 0 (length claims)) bs (told ++ told_b ∷ []) adds.brings.accepts.ready.sound
           (subst (λ h. base ≤ length h) (sym (keeps.held ∙ mid_held)) core.based)
           (ap (take base) (keeps.held ∙ mid_held)) told_before
           (keeps.held ∙ mid_held ∙ core.in_order ∙ sym order_then)
           (accepted_took mode bs told adds.brings.between adds.before number steps steps_then adds.brings.accepts reader b claims (ap (λ h. slice_get h number) mid_held ∙ at) mid_told
-          (mid_held ∙ core.in_order ∙ sym order_then) (log_then old adds.brings.between core.stands [] (Took reader number claims) adds.brings.comes told_b is_whole ∙ core.log_is))
+          (mid_held ∙ core.in_order ∙ sym order_then) (log_then old adds.brings.between core.sound [] (Took reader number claims) adds.brings.comes told_b is_whole ∙ core.log_is))
           (regular_took mode bs told core.regular reader b claims)
           (tally_took bs told tally core.tallied reader b claims 0 sum_same)
           (λ small. within_took bs told tally core.tallied reader b claims limits room (let w = core.within small in omega (arith, sum_same, w.body_bytes)))
@@ -177,7 +177,7 @@ module _ (mode : Mode) (limits : Limits) (base : ℕ) where
       whole_new = let at = slice_get_last old.held b in rw at refl
 
       new_mid_told : told_of adds.brings.between ≡ told ++ told_new ∷ []
-      new_mid_told = told_then old adds.brings.between core.stands (b ∷ []) (Took reader (length old.held) claims) adds.brings.comes told_new whole_new
+      new_mid_told = told_then old adds.brings.between core.sound (b ∷ []) (Took reader (length old.held) claims) adds.brings.comes told_new whole_new
 
       new_keeps : KeepsTold adds.brings.between adds.before
       new_keeps = adds.brings.accepts.ready.keeps
@@ -195,15 +195,15 @@ module _ (mode : Mode) (limits : Limits) (base : ℕ) where
       new_sum = ap bytes_of new_order ∙ sum_by-append (λ c. length c.bytes) old.held (b ∷ []) ∙ omega (arith, ap bytes_of core.in_order)
 
       new_base : take base adds.before.held ≡ bs
-      new_base = ap (take base) new_keeps.held ∙ base_then old adds.brings.between core.stands (b ∷ []) (Took reader (length old.held) claims) adds.brings.comes told_new whole_new base core.based
+      new_base = ap (take base) new_keeps.held ∙ base_then old adds.brings.between core.sound (b ∷ []) (Took reader (length old.held) claims) adds.brings.comes told_new whole_new base core.based
 
       new_core_before : IsCore mode limits base (with_claims (record { rows = adds.before.claims.rows; pending = None }) (record adds.before { released = length adds.before.log.numbers })) (tally_with tally (length b.bytes) (length claims))
-      new_core_before = core_of_parts adds.before (tally_with tally (length b.bytes) (length claims)) bs (told ++ told_new ∷ []) adds.brings.accepts.ready.stands
+      new_core_before = core_of_parts adds.before (tally_with tally (length b.bytes) (length claims)) bs (told ++ told_new ∷ []) adds.brings.accepts.ready.sound
           (omega (arith, ap length held_before, length-append old.held (b ∷ []), core.based))
           new_base new_told_before (held_before ∙ sym new_order)
           (accepted_took mode bs told adds.brings.between adds.before (length old.held) steps steps_then adds.brings.accepts reader b claims
           (ap (λ h. slice_get h (length old.held)) adds.brings.comes.held ∙ slice_get_last old.held b) new_mid_told (adds.brings.comes.held ∙ sym new_order)
-          (log_then old adds.brings.between core.stands (b ∷ []) (Took reader (length old.held) claims) adds.brings.comes told_new whole_new ∙ core.log_is))
+          (log_then old adds.brings.between core.sound (b ∷ []) (Took reader (length old.held) claims) adds.brings.comes told_new whole_new ∙ core.log_is))
           (regular_took mode bs told core.regular reader b claims)
           (tally_took bs told tally core.tallied reader b claims (length b.bytes) new_sum)
           (λ fits. within_took bs told tally core.tallied reader b claims limits room (omega (arith, new_sum, small, core.tallied.body_bytes)))
@@ -252,7 +252,7 @@ module _ (mode : Mode) (limits : Limits) (base : ℕ) where
       v_order = bodies_heard bs told reader b s.key s.sig verdict
 
       v_core : IsCore mode limits base (with_claims (record { rows = adds.before.claims.rows; pending = None }) (record adds.before { released = length adds.before.log.numbers })) tally
-      v_core = core_of_parts adds.before tally bs (told ++ told_v ∷ []) adds.accepts.ready.stands
+      v_core = core_of_parts adds.before tally bs (told ++ told_v ∷ []) adds.accepts.ready.sound
           (subst (λ h. base ≤ length h) (sym (v_keeps.held ∙ v_held)) core.based)
           (ap (take base) (v_keeps.held ∙ v_held)) v_told_before
           (v_keeps.held ∙ v_held ∙ core.in_order ∙ sym v_order)
@@ -275,7 +275,7 @@ module _ (mode : Mode) (limits : Limits) (base : ℕ) where
 pub nothing_core : (mode : Mode) (limits : Limits) → IsCore mode limits 0 nothing (record { messages = 0; body_bytes = 0; signatures = 0 })
 unfolding bodies distinct told_by chosen accepted grown_by
 nothing_core mode limits = record {
-  stands = nothing_stands;
+  sound = nothing_stands;
   idle = refl;
   left = refl;
   based = omega arith;

@@ -4,7 +4,7 @@ use Rattle.std.proofs.Math.Seq.{take-append_seam, take-length}
 use Rattle.std.proofs.lemmas.List.{length-map}
 use Rattle.std.specs.Prelude.{All}
 use Rattle.std.specs.List.{list_any}
-use Rattle.validator_core.specs.Acceptance.Standing.{Extends, Hears, IsStanding}
+use Rattle.validator_core.specs.Acceptance.Standing.{Extends, Hears, AreSoundTables}
 use Rattle.validator_core.proofs.AcceptanceLemmas.Rewound.{extends_itself, extends_then, is_cut, rewound_is}
 use Rattle.claim_table.proofs.CoreLawsLemmas.Entries.{all_from}
 use Rattle.claim_table.specs.declared.claim_table.row.Row.{Row}
@@ -14,7 +14,7 @@ use Rattle.claim_table.specs.ClaimTable.Table.{KeepsPending}
 use Rattle.validator_core.specs.Tables.View.{View, IsCut, mark_of, number_of, rewound, with_claims}
 
 -- TOOK: with no verdict pending
-module _ (old new : View) (stands : IsStanding old) (idle : old.claims.pending ≡ None) (left : old.released ≡ length old.log.numbers) (more : Extends old new) where
+module _ (old new : View) (stands : AreSoundTables old) (idle : old.claims.pending ≡ None) (left : old.released ≡ length old.log.numbers) (more : Extends old new) where
   pub cut_took : IsCut (mark_of old) new
   cut_took = is_cut old new stands (omega (arith, left)) (subst (KeepsPending (length old.claims.rows) new.claims.rows) (sym (more.pending ∙ idle)) tt) more
 
@@ -34,7 +34,7 @@ raised_heard s v (r ∷ rows) =
     kept false = refl
 
 -- HEARD: the tables with a verdict that may be taken back
-module _ (s : Signature) (verdict : Bool) (reader : ℕ) (old between new : View) (stands : IsStanding old) (idle : old.claims.pending ≡ None) (left : old.released ≡ length old.log.numbers)
+module _ (s : Signature) (verdict : Bool) (reader : ℕ) (old between new : View) (stands : AreSoundTables old) (idle : old.claims.pending ≡ None) (left : old.released ≡ length old.log.numbers)
     (raised : is_raised old.claims.rows s ≡ true) (hears : Hears s verdict reader old between) (more : Extends between new) where
   abbrev begun : View
   begun = with_claims (record { rows = heard s verdict old.claims.rows; pending = Some s }) old

@@ -4,7 +4,7 @@ use Rattle.std.specs.Prelude.{slice_get, take}
 use Rattle.std.proofs.lemmas.Bool.{or_left}
 use Rattle.std.proofs.lemmas.List.{take-append-le}
 use Rattle.validator_core.specs.Acceptance.ReadyRuns.{RunsOver}
-use Rattle.validator_core.specs.Acceptance.Standing.{Comes, IsStanding, told_of}
+use Rattle.validator_core.specs.Acceptance.Standing.{Comes, AreSoundTables, told_of}
 use Rattle.validator_core.proofs.AcceptanceLemmas.Entries.{told_front}
 use Rattle.claim_table.specs.CoreLaws.Entries.{HaveNamed}
 use Rattle.claim_table.proofs.CoreLawsLemmas.Entries.{all_from, entry_settles}
@@ -34,7 +34,7 @@ accepts_to mode base told t ts held log end due told_is held_is log_is named run
     entry_settles mode base told t due end named2 run3
 
 -- COMES: what the tables with an entry tell, and what they accept
-module _ (old new : View) (stands : IsStanding old) (more : List Body) (e : Entry) (comes : Comes more e old new) (t : Told) (is : whole (old.held ++ more) e ≡ Some t) where
+module _ (old new : View) (stands : AreSoundTables old) (more : List Body) (e : Entry) (comes : Comes more e old new) (t : Told) (is : whole (old.held ++ more) e ≡ Some t) where
   pub told_then : told_of new ≡ told_of old ++ t ∷ []
   told_then =
       let held = comes.held in

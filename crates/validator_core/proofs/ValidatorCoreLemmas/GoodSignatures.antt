@@ -26,7 +26,7 @@ use Rattle.validator_core.specs.Tables.Raised.{claims_at}
 use Rattle.validator_core.specs.Tables.View.{View, log_of}
 use Rattle.validator_core.proofs.TablesLemmas.ToldClaims.{told_claims}
 use Rattle.validator_core.specs.Acceptance.Footing.{IsFooting}
-use Rattle.validator_core.specs.Acceptance.Standing.{IsStanding, told_of}
+use Rattle.validator_core.specs.Acceptance.Standing.{AreSoundTables, told_of}
 use Rattle.validator_core.specs.declared.acceptance.footing.Footing.TheVariants.{Inception, Behind}
 use Rattle.validator_core.proofs.AcceptanceLemmas.Behind.{rules_cut}
 use Rattle.validator_core.proofs.AcceptanceLemmas.FoundClaims.{first_has_none}
@@ -62,7 +62,7 @@ module _ (told : List Told) (b : Body) (rules : Rules) (says : Key → Sig → B
     | inr k ↦ (let no : is_good says rules c ≡ false = good_yes c ∙ k in rw (k, no) (good_claims claims))
   ]
 
-module _ (v : View) (is : IsStanding v) (n : ℕ) (b : Body) (at : slice_get v.held n ≡ Some b) where
+module _ (v : View) (is : AreSoundTables v) (n : ℕ) (b : Body) (at : slice_get v.held n ≡ Some b) where
   -- ALL: those that came by the entries with the name of the body
   pub all_good : (s : Option State) (places : List ℕ) → IsStrictlyIncreasing places
       → ((i reader m : ℕ) (claims : List Claim) (c : Body) → slice_get v.entries i ≡ Some (Took reader m claims) → slice_get v.held m ≡ Some c → name_of c.event ≡ name_of b.event → Contains places i)

@@ -106,6 +106,6 @@ module _ (mode : Mode) (v after : View) (number steps steps_then : ℕ) (accepts
   accepts_few base told t c at told_is held_is log_is clear =
       let is = accepts.ready in
       let bound = run_bound mode base told t (told_of v) v.held (log_of v) (log_of after) accepts.due told_is held_is log_is in
-      let looks = run_few mode (told_of v) v.held (log_of v) (log_of after) accepts.due bound is.run (is.stands.grown, clear) is.frugal in
+      let looks = run_few mode (told_of v) v.held (log_of v) (log_of after) accepts.due bound is.run (is.sound.grown, clear) is.frugal in
       let named = due_few v number accepts.due c at accepts.no_others in
       omega (arith, looks, named, counted_few steps looked, is.steps_are)

@@ -63,16 +63,16 @@ module _ (mode : Mode) (limits : Limits) (base : ℕ) (old : View) (tally : Tall
   raised_held up =
       let r = found_at (is_of s) old.claims.rows up in
       let body : r.1.claimed.body ≡ q.body = numbers r.1.claimed.body q.body (and_parts (r.1.claimed.body == q.body) _ r.3).0 in
-      let low = core.stands.claims.below r.0 r.1 r.2 in
+      let low = core.sound.claims.below r.0 r.1 r.2 in
       omega (arith, body, low)
 
   module _ (b : Body) (at : slice_get old.held q.body ≡ Some b) where
     -- what becomes of a verdict, by the rows
     becomes : noted mode bs told (triple_on b q.key q.sig) ≡ (if is_raised old.claims.rows s then (if has_verdict told (triple_on b q.key q.sig) then Known else New) else Unasked)
-    becomes = noted_is told (log_of old) old.held old.claims.rows core.stands.claims q.body b at q.key q.sig mode bs core.in_order core.log_is core.stands.differ
+    becomes = noted_is told (log_of old) old.held old.claims.rows core.sound.claims q.body b at q.key q.sig mode bs core.in_order core.log_is core.sound.differ
 
     there : is_none (verdict_of old.claims.rows s) ≡ not (has_verdict told (triple_on b q.key q.sig))
-    there = ap is_none (core.stands.claims.verdicts q.body b q.key q.sig at) ∙ verdict_there told (triple_on b q.key q.sig)
+    there = ap is_none (core.sound.claims.verdicts q.body b q.key q.sig at) ∙ verdict_there told (triple_on b q.key q.sig)
 
     is_unasked : is_raised old.claims.rows s ≡ false → Unasked ≡ noted mode bs told (triple_on b q.key q.sig)
     is_unasked down = sym (becomes ∙ rw down refl)
@@ -146,7 +146,7 @@ module _ (mode : Mode) (limits : Limits) (base : ℕ) (old : View) (tally : Tall
 
     pub fewer : unheard_of (seen mode limits base new) < unheard_of (seen mode limits base old)
     fewer =
-        let raised = raised_is told (log_of old) old.held old.claims.rows core.stands.claims q.body b.0 b.1 q.key q.sig ∙ up in
+        let raised = raised_is told (log_of old) old.held old.claims.rows core.sound.claims q.body b.0 b.1 q.key q.sig ∙ up in
         let silence = silent (has_verdict told (triple_on b.0 q.key q.sig)) (sym (ap is_none none) ∙ there b.0 b.1) in
         let stay = subst (λ l. (c : Body) → stands l c ≡ true → state_before (log_of adds.before) c ≡ state_before l c) same_log
         (λ c on. stays mode (told_of adds.between) adds.between.held adds.accepts.due (log_of adds.between) (log_of adds.before) adds.accepts.ready.run c on) in

@@ -42,7 +42,7 @@ module _ (mode : Mode) (limits : Limits) (base : ℕ) (v : View) (tally : Tally)
   named =
       let order = core.in_order in
       let log = core.log_is in
-      open_rows_are (told_of v) (log_of v) v.held v.claims.rows core.stands.claims
+      open_rows_are (told_of v) (log_of v) v.held v.claims.rows core.sound.claims
       ∙ ap (map (λ t. Some t)) ((λ i. flat_map (open_on (told_of v) (log i)) (order i)) ∙ sym (questions_are mode (base_in base v) (told_of v)))
 
   counted : length rows ≡ length all

@@ -17,7 +17,7 @@ use Rattle.cesr_codes.proofs.Same.{same_prefix}
 use Rattle.event_body.specs.declared.event_body.event.Event.{Event}
 use Rattle.event_body.specs.EventBody.Events.{prefix_of, sn_of}
 use Rattle.keri_outside.specs.declared.limits.Limits.{Limits}
-use Rattle.validator_core.specs.Acceptance.Standing.{IsHeld, IsStanding, told_of}
+use Rattle.validator_core.specs.Acceptance.Standing.{IsHeld, AreSoundTables, told_of}
 use Rattle.validator_core.specs.Tables.View.{View, log_of}
 use Rattle.journal.specs.declared.journal.body.Body.{Body}
 use Rattle.journal.specs.declared.journal.conflict.Conflict.{Conflict}
@@ -136,7 +136,7 @@ pub counted_is : (mode : Mode) (limits : Limits) (base : ℕ) (v : View) (tally 
 counted_is mode limits base v tally core = let order = core.in_order in let log = core.log_is in λ i. filter (counts (told_of v) (log i)) (order i)
 
 -- the numbers of the log are below the number of events
-pub numbers_below : (v : View) → IsStanding v → (events : List Event) → events ≡ map (λ b. b.event) v.held → (numbers : List ℕ) → numbers ≡ v.log.numbers
+pub numbers_below : (v : View) → AreSoundTables v → (events : List Event) → events ≡ map (λ b. b.event) v.held → (numbers : List ℕ) → numbers ≡ v.log.numbers
     → All (λ n. n < length events) numbers
 numbers_below v is events events_are numbers numbers_are =
     let low : All (λ n. n < length v.held) v.log.numbers = λ k d h. is.accepted_held k (get_or v.log.numbers k d) (slice_get-get_or v.log.numbers k d h) in

@@ -69,7 +69,7 @@ module _ (mode : Mode) (limits : Limits) (base : ℕ) (old : View) (tally : Tall
       pub takes_held : (p : Bool) → p ≡ list_all (λ c. list_any (same_claim c) (came_with number old.entries)) claims
           → TakesBody (seen mode limits base old) reader b claims (if p then Again else Taken) (seen mode limits base new)
       takes_held p is = record {
-        reply_is = reply_then limits bs told b claims p (full_again limits tally bs told core.tallied b claims inside ∙ spent) (is ∙ again_is old.held core.stands.differ number b at bs old.entries claims inside);
+        reply_is = reply_then limits bs told b claims p (full_again limits tally bs told core.tallied b claims inside ∙ spent) (is ∙ again_is old.held core.sound.differ number b at bs old.entries claims inside);
         told_is = told_again mode limits base old tally core new number reader steps steps_then claims b at (not_spent limits tally (length claims) spent) adds ∙ told_either told reader b claims p;
         follows = record { mode = refl; limits = refl; base = refl; bodies = base_again mode limits base old tally core new number reader steps steps_then claims b at (not_spent limits tally (length claims) spent) adds };
       }

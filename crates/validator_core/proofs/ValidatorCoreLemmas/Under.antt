@@ -14,7 +14,7 @@ use Rattle.claim_table.proofs.CoreLawsLemmas.Alike.{own_rules-alike}
 use Rattle.validator_core.specs.Tables.AcceptedLog.Cuts.{AreBothAlike}
 use Rattle.validator_core.proofs.TablesLemmas.NamedRows.{body_there, chosen_at}
 use Rattle.validator_core.specs.Tables.View.{View, log_of}
-use Rattle.validator_core.specs.Acceptance.Standing.{IsStanding}
+use Rattle.validator_core.specs.Acceptance.Standing.{AreSoundTables}
 
 -- RULES: alike states ask the same, and none asks what none does
 pub rules_both : (o p : Option State) → AreBothAlike o p → (e : Event) → own_rules o e ≡ own_rules p e
@@ -39,8 +39,8 @@ there_at : (held : List Body) (o : Option ℕ) (n : ℕ) (b : Body) → o ≡ So
 there_at held None n b is at = cc
 there_at held (Some m) n b is at = let same : m ≡ n = cc in ap (slice_get held) (sym same) ∙ at
 
-pub accepted_at : (v : View) → IsStanding v → (place n : ℕ) (b : Body) → slice_get v.log.numbers place ≡ Some n → slice_get (log_of v) place ≡ Some b → slice_get v.held n ≡ Some b
+pub accepted_at : (v : View) → AreSoundTables v → (place n : ℕ) (b : Body) → slice_get v.log.numbers place ≡ Some n → slice_get (log_of v) place ≡ Some b → slice_get v.held n ≡ Some b
 accepted_at v is place n b number at = there_at v.held (slice_get v.log.numbers place) n b number (sym (chosen_at v.held v.log.numbers is.accepted_held place) ∙ at)
 
-pub none_at : (v : View) → IsStanding v → (place : ℕ) (b : Body) → slice_get v.log.numbers place ≡ None → slice_get (log_of v) place ≡ Some b → ⊥
+pub none_at : (v : View) → AreSoundTables v → (place : ℕ) (b : Body) → slice_get v.log.numbers place ≡ None → slice_get (log_of v) place ≡ Some b → ⊥
 none_at v is place b none at = let lost : None ≡ Some b = ap (body_there v.held) (sym none) ∙ sym (chosen_at v.held v.log.numbers is.accepted_held place) ∙ at in cc

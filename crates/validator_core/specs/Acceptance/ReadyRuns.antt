@@ -8,7 +8,7 @@ use Rattle.claim_table.specs.CoreLaws.Candidates.{Runs}
 use Rattle.claim_table.specs.CoreLaws.Looks.{IsFrugal, looks}
 use Rattle.claim_table.specs.CoreLaws.Waking.{wakes}
 use Rattle.validator_core.specs.Tables.View.{View, log_of}
-use Rattle.validator_core.specs.Acceptance.Standing.{IsStanding, told_of}
+use Rattle.validator_core.specs.Acceptance.Standing.{AreSoundTables, told_of}
 
 -- a run over candidates by the rules of what was told
 abbrev pub RunsOver : Mode → List Told → List Body → List ℕ → List Body → List Body → Type 0
@@ -40,4 +40,4 @@ pub record AcceptsReady (mode : Mode) (due : List ℕ) (old new : View) (steps s
   pub steps_are : steps_then ≡ counted_on steps (looks_in mode (told_of old) old.held due (log_of old) (log_of new) run)
   pub frugal : TakesFew mode (told_of old) old.held due (log_of old) (log_of new) run
   pub keeps : KeepsTold old new
-  pub stands : IsStanding new
+  pub sound : AreSoundTables new

@@ -27,7 +27,7 @@ pub record IsHeld (b : Body) : Type 0 where
 
 -- the bodies are spelled and differ, the entries and the accepted events speak of them, the log is grown, and the states and
 -- the claims are those of the log and of what was told
-pub record IsStanding (v : View) : Type 0 where
+pub record AreSoundTables (v : View) : Type 0 where
   pub spelled : (n : ℕ) (b : Body) → slice_get v.held n ≡ Some b → IsHeld b
   pub differ : Differ same_body v.held
   pub entries_held : (i : ℕ) (e : Entry) → slice_get v.entries i ≡ Some e → number_of e < length v.held
@@ -52,7 +52,7 @@ pub record Comes (more : List Body) (e : Entry) (old new : View) : Type 0 where
   pub log : new.log ≡ old.log
   pub pending : new.claims.pending ≡ old.claims.pending
   pub released : new.released ≡ old.released
-  pub stands : IsStanding new
+  pub sound : AreSoundTables new
 
 -- a verdict on a signature comes: its entry is last, it stands on the signature's rows and may still be taken back, and nothing
 -- else has changed
@@ -60,7 +60,7 @@ pub record Hears (s : Signature) (verdict : Bool) (reader : ℕ) (old new : View
   pub is : new ≡ record (with_claims (record { rows = heard s verdict old.claims.rows; pending = Some s }) old)
       { entries = old.entries ++ Heard reader s.body s.key s.sig verdict ∷ [] }
   pub back : unheard s new.claims.rows ≡ old.claims.rows
-  pub stands : IsStanding new
+  pub sound : AreSoundTables new
 
 -- a body is accepted: it is last in the log, and nothing else has changed but the rows of claims
 pub record Accepts (b : Body) (old new : View) : Type 0 where
@@ -69,4 +69,4 @@ pub record Accepts (b : Body) (old new : View) : Type 0 where
   pub log : log_of new ≡ log_of old ++ b ∷ []
   pub pending : new.claims.pending ≡ old.claims.pending
   pub released : new.released ≡ old.released
-  pub stands : IsStanding new
+  pub sound : AreSoundTables new

@@ -3,7 +3,7 @@ use Rattle.std.specs.Prelude.{◌≡◌, ℕ, ◌<◌, true, List, length, slice
 use Rattle.event_body.specs.EventBody.Events.{is_receipt}
 use Rattle.validator_core.specs.declared.acceptance.footing.Footing.{Footing}
 use Rattle.validator_core.specs.declared.acceptance.footing.Footing.TheVariants.{Inception, Behind}
-use Rattle.validator_core.specs.Acceptance.Standing.{IsHeld, IsStanding}
+use Rattle.validator_core.specs.Acceptance.Standing.{IsHeld, AreSoundTables}
 use Rattle.validator_core.specs.Acceptance.Taken.{found_by, with_entry}
 use Rattle.validator_core.specs.Tables.AcceptedLog.Cuts.{IsLog}
 use Rattle.claim_table.specs.CoreLaws.ClaimRows.{AreFound}
@@ -47,7 +47,7 @@ pub record RaisesFound (n : ℕ) (b : Body) (claims : List Claim) (old new : Vie
 -- the body of a number came by the last entry, and no claim of that is raised: without it the tables stand
 pub record IsTold (number entry : ℕ) (v : View) : Type 0 where
   pub before : View
-  pub stands : IsStanding before
+  pub sound : AreSoundTables before
   pub reader : ℕ
   pub claims : List Claim
   pub low : number < length before.held

@@ -10,7 +10,7 @@ use Rattle.claim_table.specs.CoreLaws.Candidates.{Widens}
 use Rattle.claim_table.specs.CoreLaws.Waking.{wakes}
 use Rattle.validator_core.specs.Tables.View.{View, log_of}
 use Rattle.validator_core.specs.Acceptance.ReadyRuns.{KeepsTold, RunsOver, TakesFew, counted_on, looks_in}
-use Rattle.validator_core.specs.Acceptance.Standing.{IsStanding, told_of}
+use Rattle.validator_core.specs.Acceptance.Standing.{AreSoundTables, told_of}
 
 -- from the one candidates and list each run goes on from the other, with so many looks more; a frugal one is frugal still
 pub record LeadsTo (mode : Mode) (told : List Told) (held : List Body) (due : List ℕ) (log : List Body) (left : List ℕ) (now : List Body) (taken : ℕ) : Type 0 where
@@ -39,7 +39,7 @@ pub record IsOver (mode : Mode) (v : View) (due : List ℕ) (steps steps_then : 
 pub record AcceptsNext (mode : Mode) (b : Body) (old new : View) (left due : List ℕ) : Type 0 where
   pub keeps : KeepsTold old new
   pub log : log_of new ≡ log_of old ++ b ∷ []
-  pub stands : IsStanding new
+  pub sound : AreSoundTables new
   pub widens : Widens (is_ready mode (told_of old)) (wakes mode) old.held (log_of old) b left due
   pub few : length due ≤ length left + count_by (wakes mode (log_of old) b) old.held
 

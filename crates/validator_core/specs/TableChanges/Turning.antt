@@ -12,7 +12,7 @@ use Rattle.validator_core.specs.Tables.AcceptedLog.Cuts.{IsLog}
 use Rattle.validator_core.specs.Tables.AcceptedLog.Values.{Log}
 use Rattle.claim_table.specs.CoreLaws.ClaimRows.{HasClaims, found_on, verdict_in}
 use Rattle.validator_core.specs.Tables.View.{View, log_of, with_log, with_rows}
-use Rattle.validator_core.specs.Acceptance.Standing.{IsStanding, told_of}
+use Rattle.validator_core.specs.Acceptance.Standing.{AreSoundTables, told_of}
 use Rattle.validator_core.specs.Acceptance.Turned.{turned}
 
 -- the last event of the log is the first that stands right before the body
@@ -35,7 +35,7 @@ pub record IsAppended (c : Body) (number : ℕ) (old new : View) : Type 0 where
 
 -- the event is last in the log, and of the bodies of these numbers all claims are raised
 pub record IsTurning (old : View) (c : Body) (done : List ℕ) (new : View) : Type 0 where
-  pub stands : IsStanding old
+  pub sound : AreSoundTables old
   pub number : ℕ
   pub at : slice_get old.held number ≡ Some c
   pub fit : IsTrue (fits (log_of old) c)

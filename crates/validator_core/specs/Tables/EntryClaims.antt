@@ -14,13 +14,13 @@ is_receipt_of (Some r) None = false
 is_receipt_of (Some r) (Some e) = is_receipt r && same_digest (said_of r) (said_of e) && same_prefix (prefix_of r) (prefix_of e) && (sn_of r == sn_of e)
 
 -- what comes with the event of the first number stands on that of the second: it is that event, or a receipt of it
-abbrev pub stands_on : List Event → ℕ → ℕ → Bool
-stands_on events m n = (m == n) || is_receipt_of (slice_get events m) (slice_get events n)
+abbrev pub bears_on : List Event → ℕ → ℕ → Bool
+bears_on events m n = (m == n) || is_receipt_of (slice_get events m) (slice_get events n)
 
 -- the claims of an entry that stand on the event of a number
 abbrev pub came_to : List Event → ℕ → Option Entry → List Claim
 came_to events n None = []
-came_to events n (Some (Took reader m claims)) = if stands_on events m n then claims else []
+came_to events n (Some (Took reader m claims)) = if bears_on events m n then claims else []
 came_to events n (Some (Heard reader m key sig verdict)) = []
 
 -- the claims of the entries of these numbers that stand on it

@@ -3,7 +3,7 @@ use Rattle.std.specs.Prelude.{◌≡◌, ℕ, ◌≤◌, false, true, List, [], 
 use Rattle.event_body.specs.declared.event_body.event.Event.{Event}
 use Rattle.event_body.specs.EventBody.Judging.{SpellsEvent}
 use Rattle.keri_outside.specs.declared.limits.Limits.{Limits}
-use Rattle.validator_core.specs.Acceptance.Standing.{IsHeld, IsStanding}
+use Rattle.validator_core.specs.Acceptance.Standing.{IsHeld, AreSoundTables}
 use Rattle.validator_core.specs.Tables.View.{View, log_of}
 use Rattle.journal.specs.declared.journal.body.Body.{Body}
 use Rattle.journal.specs.declared.journal.mode.Mode.{Mode}
@@ -52,7 +52,7 @@ IsRefused held text OutOfMemory = Unit {0}
 
 -- tables that were told nothing, and have accepted all their bodies
 pub record AreAccepted (v : View) : Type 0 where
-  pub stands : IsStanding v
+  pub sound : AreSoundTables v
   pub untold : v.entries ≡ []
   pub idle : v.claims.pending ≡ None
   pub all : log_of v ≡ v.held

@@ -4,7 +4,7 @@ use Rattle.std.specs.List.Sorted.{IsStrictlySortedBy}
 use Rattle.std.specs.Ordering.{nat_cmp}
 use Rattle.keri_outside.specs.declared.limits.Limits.{Limits}
 use Rattle.validator_core.specs.Acceptance.ReadyRuns.{AcceptsReady}
-use Rattle.validator_core.specs.Acceptance.Standing.{Comes, Hears, IsStanding, told_of}
+use Rattle.validator_core.specs.Acceptance.Standing.{Comes, Hears, AreSoundTables, told_of}
 use Rattle.claim_table.specs.CoreLaws.Waking.{is_waiting}
 use Rattle.claim_table.specs.declared.claim_table.signature.Signature.{Signature}
 use Rattle.validator_core.specs.Tables.View.{View, log_of, with_claims}
@@ -30,7 +30,7 @@ base_in base v = take base v.held
 -- The tables stand, no verdict may be taken back, and all accepted events have left the escrow. The bodies stand in order, the
 -- accepted events are those of the definition, each verdict was given to an open question, and the tally counts.
 pub record IsCore (mode : Mode) (limits : Limits) (base : ℕ) (v : View) (tally : Tally) : Type 0 where
-  pub stands : IsStanding v
+  pub sound : AreSoundTables v
   pub idle : v.claims.pending ≡ None
   pub left : v.released ≡ length v.log.numbers
   pub based : base ≤ length v.held

@@ -62,7 +62,7 @@ bytes_of held = sum_by (λ b. length b.bytes) held
 -- Each body's event is spelled by its bytes. The bodies are those of the base and those that came, in order of first coming. Each
 -- entry's body is held, each verdict was given to a question that was open, the limits are kept unless the base alone was over
 -- them, and no body is ready that isn't accepted.
-pub record Stands (core : CoreView) : Type 0 where
+pub record IsSoundCore (core : CoreView) : Type 0 where
   pub spelled : All IsHeld core.held
   pub in_order : InOrder core.base core.held core.entries
   pub all_held : length (told_of core) ≡ length core.entries

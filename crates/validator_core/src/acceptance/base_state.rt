@@ -1,7 +1,7 @@
 //! Whether an event stands, and on which state.
 ghost use Rattle.std.specs.Prelude.{◌≡◌, ℕ, List, true, Some, is_some, slice_get};
 ghost use Rattle.std.specs.Option.{option_copied};
-ghost use Rattle.validator_core.specs.Acceptance.Standing.{IsStanding};
+ghost use Rattle.validator_core.specs.Acceptance.Standing.{AreSoundTables};
 ghost use Rattle.validator_core.specs.Tables.AcceptedLog.Values.{last_place};
 ghost use Rattle.validator_core.specs.Tables.View.{body_of, log_of};
 ghost use Rattle.claim_table.specs.CoreLaws.Waking as waking;
@@ -16,7 +16,7 @@ use key_state::KeyState;
 
 /// Whether the event stands.
 pub(crate) fn stands(tables: &Tables, event: &Event) -> bool
-    requires { IsStanding tables.now }
+    requires { AreSoundTables tables.now }
     ensures { (bytes : List ℕ) → result ≡ logs.stands (log_of tables.now) (body_of bytes event.now) }
 {
     footing_of(tables, event).is_some()
@@ -25,7 +25,7 @@ pub(crate) fn stands(tables: &Tables, event: &Event) -> bool
 /// Whether the event, which the current state of its identifier takes, stands on that state, which is at the place, or is an
 /// inception. So it is where no two accepted events have one name, as ever but where digests collide.
 pub(crate) fn is_on_current(tables: &Tables, event: &Event, current: Option<u32>) -> bool
-    requires standing { IsStanding tables.now }
+    requires standing { AreSoundTables tables.now }
     requires last { current ≡ last_place (events.prefix_of event.now) tables.now.log.states }
     ensures { (bytes : List ℕ) → result ≡ true
         → logs.takes (logs.state (log_of tables.now) (events.prefix_of event.now)) event.now ≡ true
@@ -77,7 +77,7 @@ pub(crate) fn follows_some(tables: &Tables, event: &Event) -> bool
 
 /// Whether the event of the body of a number isn't accepted.
 pub(crate) fn is_waiting(tables: &Tables, number: u32, event: &Event) -> bool
-    requires { IsStanding tables.now }
+    requires { AreSoundTables tables.now }
     ensures { (bytes : List ℕ) → slice_get tables.now.held number ≡ Some (body_of bytes event.now)
         → result ≡ waking.is_waiting (log_of tables.now) (body_of bytes event.now) }
 {

@@ -1,6 +1,6 @@
 //! Whether an event counts where conflicts are looked for.
 ghost use Rattle.std.specs.Prelude.{◌≡◌, Some, slice_get};
-ghost use Rattle.validator_core.specs.Acceptance.Standing.{IsStanding, told_of};
+ghost use Rattle.validator_core.specs.Acceptance.Standing.{AreSoundTables, told_of};
 ghost use Rattle.validator_core.specs.Tables.View.{log_of};
 ghost use Rattle.journal.specs.Journal.Conflicts as conflicts;
 ghost use Rattle.journal.specs.declared.journal.body.Body.{Body};
@@ -15,7 +15,7 @@ use journal::{meets_before, meets_own};
 /// Whether the event of a number stands and is signed under the state that it follows: then it may conflict with others. It
 /// takes no memory.
 pub fn counts(tables: &Tables, number: u32) -> bool
-    requires { IsStanding tables.now }
+    requires { AreSoundTables tables.now }
     ensures { (b : Body) → slice_get tables.now.held number ≡ Some b
         → result ≡ conflicts.counts (told_of tables.now) (log_of tables.now) b }
 {

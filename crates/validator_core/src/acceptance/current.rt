@@ -1,7 +1,7 @@
 //! An event of the tables, and the current state of its identifier.
 ghost use Rattle.std.specs.Prelude.{◌≡◌, slice_get, IfSome};
 ghost use Rattle.std.specs.Option.{option_copied, option_map};
-ghost use Rattle.validator_core.specs.Acceptance.Standing.{IsStanding};
+ghost use Rattle.validator_core.specs.Acceptance.Standing.{AreSoundTables};
 ghost use Rattle.validator_core.specs.Tables.AcceptedLog.Values.{last_place, state_there};
 ghost use Rattle.validator_core.specs.Tables.View.{log_of};
 ghost use Rattle.event_body.specs.EventBody.Events as events;
@@ -16,7 +16,7 @@ use key_state::{KeyState, spelled_is_kept};
 
 /// The event of the body of a number.
 pub(crate) fn event_of(tables: &Tables, number: u32) -> Option<&Event>
-    requires { IsStanding tables.now }
+    requires { AreSoundTables tables.now }
     ensures event { option_copied result ≡ option_map (λ b. b.event) (slice_get tables.now.held number) }
     ensures kept { IfSome (option_copied result) IsKept }
 {
@@ -33,7 +33,7 @@ pub(crate) struct CurrentState<'a> {
 
 /// The current state of an event's identifier, with its place.
 pub(crate) fn current_of<'a>(tables: &'a Tables, event: &Event) -> CurrentState<'a>
-    requires { IsStanding tables.now }
+    requires { AreSoundTables tables.now }
     ensures place { result.place ≡ last_place (events.prefix_of event.now) tables.now.log.states }
     ensures state { option_copied result.state ≡ logs.state (log_of tables.now) (events.prefix_of event.now) }
 {
@@ -53,7 +53,7 @@ fn state_at(tables: &Tables, place: Option<u32>) -> Option<&KeyState>
 
 /// The current state of an event's identifier.
 pub(crate) fn state_of<'a>(tables: &'a Tables, event: &Event) -> Option<&'a KeyState>
-    requires { IsStanding tables.now }
+    requires { AreSoundTables tables.now }
     ensures { option_copied result ≡ logs.state (log_of tables.now) (events.prefix_of event.now) }
 {
     current(tables, &event.prefix())
@@ -61,7 +61,7 @@ pub(crate) fn state_of<'a>(tables: &'a Tables, event: &Event) -> Option<&'a KeyS
 
 /// The current state of an identifier.
 pub(crate) fn current<'a>(tables: &'a Tables, prefix: &Prefix) -> Option<&'a KeyState>
-    requires { IsStanding tables.now }
+    requires { AreSoundTables tables.now }
     ensures { option_copied result ≡ logs.state (log_of tables.now) prefix.now }
 {
     tables.log().current(prefix)

@@ -1,6 +1,6 @@
 //! Whether an event is ready to be accepted.
 ghost use Rattle.std.specs.Prelude.{◌≡◌, Some, slice_get};
-ghost use Rattle.validator_core.specs.Acceptance.Standing.{IsStanding, told_of};
+ghost use Rattle.validator_core.specs.Acceptance.Standing.{AreSoundTables, told_of};
 ghost use Rattle.validator_core.specs.Tables.View.{log_of};
 ghost use Rattle.journal.specs.Journal.Readiness as readiness;
 ghost use Rattle.journal.specs.declared.journal.body.Body.{Body};
@@ -13,7 +13,7 @@ use journal::{Mode, takes};
 
 /// Whether the event of a number is ready to be accepted. It takes no memory.
 pub fn is_ready(tables: &Tables, mode: Mode, number: u32) -> bool
-    requires { IsStanding tables.now }
+    requires { AreSoundTables tables.now }
     ensures { (b : Body) → slice_get tables.now.held number ≡ Some b
         → result ≡ readiness.is_ready mode (told_of tables.now) (log_of tables.now) b }
 {

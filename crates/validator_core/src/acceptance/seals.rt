@@ -1,7 +1,7 @@
 //! Whether a delegated event is sealed by a delegator that allows it.
 ghost use Rattle.std.specs.Prelude.{◌≡◌, ◌||◌, codes};
 ghost use Rattle.std.specs.Option.{option_copied};
-ghost use Rattle.validator_core.specs.Acceptance.Standing.{IsStanding};
+ghost use Rattle.validator_core.specs.Acceptance.Standing.{AreSoundTables};
 ghost use Rattle.validator_core.specs.Tables.View.{log_of};
 ghost use Rattle.journal.specs.Journal.Readiness as readiness;
 ghost use Rattle.journal.specs.Journal.Seals as seals;
@@ -26,7 +26,7 @@ pub(crate) fn is_seal_there(
     state: Option<&KeyState>,
     event: &Event,
 ) -> bool
-    requires { IsStanding tables.now }
+    requires { AreSoundTables tables.now }
     ensures { result ≡ (readiness.is_local mode
         || seals.anchored (log_of tables.now) (option_copied state.entry) event.now) }
 {
@@ -42,7 +42,7 @@ pub(crate) fn is_local(mode: Mode) -> bool
 
 /// Whether the event wants no seal, or its delegator has sealed it and allows it.
 pub(crate) fn is_anchored(tables: &Tables, state: Option<&KeyState>, event: &Event) -> bool
-    requires { IsStanding tables.now }
+    requires { AreSoundTables tables.now }
     ensures { result ≡ seals.anchored (log_of tables.now) (option_copied state.entry) event.now }
 {
     if !event.is_delegated() {
@@ -56,7 +56,7 @@ pub(crate) fn is_anchored(tables: &Tables, state: Option<&KeyState>, event: &Eve
 
 /// Whether the delegator of the event forbids delegation, where there is one.
 pub(crate) fn is_forbidden(tables: &Tables, state: Option<&KeyState>, event: &Event) -> bool
-    requires { IsStanding tables.now }
+    requires { AreSoundTables tables.now }
     ensures { result ≡ waiting.is_forbidden (log_of tables.now)
         (seals.delegator_of (option_copied state.entry) event.now) }
 {
@@ -68,7 +68,7 @@ pub(crate) fn is_forbidden(tables: &Tables, state: Option<&KeyState>, event: &Ev
 
 // Whether the inception of the identifier, where it is accepted, forbids delegation. Its traits stay in the state.
 fn forbids(tables: &Tables, prefix: &Prefix) -> bool
-    requires { IsStanding tables.now }
+    requires { AreSoundTables tables.now }
     ensures { result ≡ seals.forbids (log_of tables.now) prefix.now }
 {
     match current(tables, prefix) {

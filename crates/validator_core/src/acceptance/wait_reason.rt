@@ -1,7 +1,7 @@
 //! Why an event waits.
 ghost use Rattle.std.specs.Prelude.{◌≡◌, ◌&&◌, ◌||◌, ℕ, List, None, Some, not, is_some, slice_get};
 ghost use Rattle.std.specs.Option.{option_copied};
-ghost use Rattle.validator_core.specs.Acceptance.Standing.{IsStanding, told_of};
+ghost use Rattle.validator_core.specs.Acceptance.Standing.{AreSoundTables, told_of};
 ghost use Rattle.validator_core.specs.Tables.View.{body_of, log_of};
 ghost use Rattle.event_body.specs.EventBody.Events as events;
 ghost use Rattle.journal.specs.Journal.Logs as logs;
@@ -20,7 +20,7 @@ use key_state::KeyState;
 /// Why the event of a number waits: the first reason that applies, and none for a receipt or an accepted event. It takes no
 /// memory.
 pub fn why_waits(tables: &Tables, mode: Mode, number: u32) -> Option<Why>
-    requires { IsStanding tables.now }
+    requires { AreSoundTables tables.now }
     ensures held { (b : Body) → slice_get tables.now.held number ≡ Some b
         → result ≡ waiting.why_waits mode (told_of tables.now) (log_of tables.now) b }
     ensures none { slice_get tables.now.held number ≡ None → result ≡ None }
@@ -42,7 +42,7 @@ pub fn why_waits(tables: &Tables, mode: Mode, number: u32) -> Option<Why>
 // Whether by what is accepted it can't be: its log has another inception, it doesn't follow its predecessor, or no longer fits
 // its log, or its delegator forbids it.
 fn is_lost(tables: &Tables, mode: Mode, state: Option<&KeyState>, event: &Event) -> bool
-    requires { IsStanding tables.now }
+    requires { AreSoundTables tables.now }
     ensures { (bytes : List ℕ) → result
         ≡ waiting.is_lost mode (log_of tables.now) (option_copied state.entry) (body_of bytes event.now) }
 {
@@ -60,7 +60,7 @@ fn is_late(state: Option<&KeyState>, event: &Event) -> bool
 
 // Whether its predecessor is there, and it doesn't stand behind it or isn't taken by the current state.
 fn is_cut_off(tables: &Tables, state: Option<&KeyState>, event: &Event) -> bool
-    requires { IsStanding tables.now }
+    requires { AreSoundTables tables.now }
     ensures { (bytes : List ℕ) → result
         ≡ (is_some (logs.predecessor (log_of tables.now) (body_of bytes event.now))
         && (not (logs.stands (log_of tables.now) (body_of bytes event.now))

@@ -1,7 +1,7 @@
 //! What is wanting in an event that the current state of its identifier takes.
 ghost use Rattle.std.specs.Prelude.{◌≡◌, ◌<◌, length};
 ghost use Rattle.std.specs.Option.{option_copied};
-ghost use Rattle.validator_core.specs.Acceptance.Standing.{IsStanding};
+ghost use Rattle.validator_core.specs.Acceptance.Standing.{AreSoundTables};
 ghost use Rattle.validator_core.specs.Tables.AcceptedLog.Values.{last_place};
 ghost use Rattle.validator_core.specs.Tables.View.{log_of};
 ghost use Rattle.event_body.specs.EventBody.Events as events;
@@ -28,7 +28,7 @@ pub(crate) fn wanting(
     current: CurrentState,
     event: &Event,
 ) -> Option<Why>
-    requires standing { IsStanding tables.now }
+    requires standing { AreSoundTables tables.now }
     requires last { current.place ≡ last_place (events.prefix_of event.now) tables.now.log.states }
     requires kept { IsKept event.now }
     requires held { number < length tables.now.held }
@@ -61,7 +61,7 @@ fn wanting_by<S: Support>(
     state: Option<&KeyState>,
     event: &Event,
 ) -> Option<Why>
-    requires standing { IsStanding tables.now }
+    requires standing { AreSoundTables tables.now }
     requires kept { IsKept event.now }
     ensures { result ≡ specs.wants_by mode (S.has support.now) (option_copied state.entry) event.now
         (seals.anchored (log_of tables.now) (option_copied state.entry) event.now) }

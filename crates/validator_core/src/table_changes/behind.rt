@@ -4,7 +4,7 @@ ghost use Rattle.std.specs.List.Sorted.{IsStrictlyIncreasing};
 ghost use Rattle.journal.specs.declared.journal.body.Body.{Body};
 ghost use Rattle.journal.specs.Journal.Logs.{precedes};
 ghost use Rattle.validator_core.specs.Tables.View.{View, log_of, with_rows};
-ghost use Rattle.validator_core.specs.Acceptance.Standing.{Extends, IsStanding};
+ghost use Rattle.validator_core.specs.Acceptance.Standing.{Extends, AreSoundTables};
 ghost use Rattle.validator_core.specs.TableChanges.Awaited.{HasAllBehind};
 ghost use Rattle.validator_core.specs.TableChanges.Turning.{IsBehindLast, IsTurning, TurnsOne};
 ghost use Rattle.validator_core.specs.TableChanges.Entries.{IsLogged};
@@ -19,7 +19,7 @@ pub(crate) fn numbers_behind(
     tables: &Tables,
     number: u32,
 ) -> Result<Vec<u32>, AllocError>
-    requires stands { IsStanding tables.now }
+    requires sound { AreSoundTables tables.now }
     ensures rising { IfOk result (λ numbers. IsStrictlyIncreasing numbers.items) }
     ensures held { IfOk result (λ numbers. (n : ℕ) → Contains numbers.items n → n < length tables.now.held) }
     ensures all { IfOk result (λ numbers. HasAllBehind tables.now number numbers.items) }

@@ -1,6 +1,6 @@
 //! Bodies that are taken, each by an entry, with its claims.
 ghost use Rattle.std.specs.Prelude.{◌≡◌, ◌<◌, ◌∷◌, [], false, length, slice_get, IfOk, None, OnOk, Some, if◌then◌else◌};
-ghost use Rattle.validator_core.specs.Acceptance.Standing.{Comes, Extends, IsHeld, IsStanding};
+ghost use Rattle.validator_core.specs.Acceptance.Standing.{Comes, Extends, IsHeld, AreSoundTables};
 ghost use Rattle.validator_core.specs.Tables.Names.{name_of as name_of_event};
 ghost use Rattle.validator_core.specs.Tables.View.{with_rows};
 ghost use Rattle.event_body.specs.EventBody.Events as events;
@@ -26,7 +26,7 @@ pub fn enter_body(
     body: Body,
     claims: Items<Claim>,
 ) -> Result<u32, AllocError>
-    requires stands { IsStanding tables.old }
+    requires sound { AreSoundTables tables.old }
     requires held { IsHeld body }
     requires outside { is_in tables.old.held body ≡ false }
     ensures number { IfOk result (λ n. n ≡ length tables.old.held) }
@@ -53,7 +53,7 @@ pub fn enter_claims(
     number: u32,
     claims: Items<Claim>,
 ) -> Result<(), AllocError>
-    requires stands { IsStanding tables.old }
+    requires sound { AreSoundTables tables.old }
     requires held { number < length tables.old.held }
     ensures ok { OnOk result (Comes [] (Took reader number claims) tables.old tables.new) }
     ensures extends { Extends tables.old tables.new }
@@ -66,7 +66,7 @@ pub fn enter_claims(
 // Raises the claims that came by the last entry, on its body or on the events that its receipt speaks of.
 fn raise_last(alloc: Global, tables: &mut Tables, number: u32, entry: u32) -> Result<(), AllocError>
     requires { IsTold number entry tables.old }
-    ensures ok { OnOk result (IsStanding tables.new) }
+    ensures ok { OnOk result (AreSoundTables tables.new) }
     ensures rows { tables.new ≡ with_rows tables.new.claims.rows tables.old }
     ensures extends { Extends tables.old tables.new }
 {

@@ -9,7 +9,7 @@ ghost use Rattle.journal.specs.Journal.Grown.{fits};
 ghost use Rattle.journal.specs.Journal.Logs.{stepped, takes};
 ghost use Rattle.validator_core.specs.Tables.AcceptedLog.Values.{last_of};
 ghost use Rattle.validator_core.specs.Tables.View.{log_of};
-ghost use Rattle.validator_core.specs.Acceptance.Standing.{Accepts, Extends, IsStanding};
+ghost use Rattle.validator_core.specs.Acceptance.Standing.{Accepts, Extends, AreSoundTables};
 ghost use Rattle.validator_core.specs.TableChanges.Turning.{IsAppended, MakesState};
 
 use crate::table_changes::behind::{numbers_behind, raise_behind};
@@ -21,7 +21,7 @@ use std::alloc::{AllocError, Global};
 /// Accepts the event of a number, which fits behind the log: it is last there, and all claims on the events that stand right
 /// behind it are raised. After an error some of that may be there: the tables are to be cut back.
 pub fn accept(alloc: Global, tables: &mut Tables, number: u32) -> Result<(), AllocError>
-    requires stands { IsStanding tables.old }
+    requires sound { AreSoundTables tables.old }
     requires held { number < length tables.old.held }
     requires fits { (b : Body) → slice_get tables.old.held number ≡ Some b → IsTrue (fits (log_of tables.old) b) }
     ensures ok { OnOk result ((b : Body) → slice_get tables.old.held number ≡ Some b → Accepts b tables.old tables.new) }
@@ -34,7 +34,7 @@ pub fn accept(alloc: Global, tables: &mut Tables, number: u32) -> Result<(), All
 
 // Adds the event of a number to the log.
 fn append(alloc: Global, tables: &mut Tables, number: u32) -> Result<(), AllocError>
-    requires stands { IsStanding tables.old }
+    requires sound { AreSoundTables tables.old }
     requires held { number < length tables.old.held }
     requires fits { (b : Body) → slice_get tables.old.held number ≡ Some b → IsTrue (fits (log_of tables.old) b) }
     ensures ok { OnOk result ((b : Body) → slice_get tables.old.held number ≡ Some b
@@ -50,7 +50,7 @@ fn append(alloc: Global, tables: &mut Tables, number: u32) -> Result<(), AllocEr
 
 // The state that the event of a number makes, and none where it is an interaction, which goes onto a state.
 fn state_of(alloc: Global, tables: &Tables, number: u32) -> Result<Option<KeyState>, AllocError>
-    requires stands { IsStanding tables.now }
+    requires sound { AreSoundTables tables.now }
     requires held { number < length tables.now.held }
     requires fits { (b : Body) → slice_get tables.now.held number ≡ Some b → IsTrue (fits (log_of tables.now) b) }
     ensures some { IfOk result (λ made. IfSome made (λ s. (b : Body) → slice_get tables.now.held number ≡ Some b

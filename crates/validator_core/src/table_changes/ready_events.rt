@@ -5,7 +5,7 @@ ghost use Rattle.std.specs.Ordering.{nat_cmp};
 ghost use Rattle.journal.specs.declared.journal.body.Body.{Body};
 ghost use Rattle.journal.specs.Journal.Readiness as ready;
 ghost use Rattle.validator_core.specs.Tables.View.{log_of};
-ghost use Rattle.validator_core.specs.Acceptance.Standing.{Extends, IsStanding, told_of};
+ghost use Rattle.validator_core.specs.Acceptance.Standing.{Extends, AreSoundTables, told_of};
 ghost use Rattle.validator_core.specs.Acceptance.ReadyRuns.{AcceptsReady};
 ghost use Rattle.validator_core.specs.TableChanges.ReadyEvents.{AcceptsNext, IsNext, IsOver, IsReadyAt};
 
@@ -28,7 +28,7 @@ pub fn accept_ready(
     due: &mut BTreeSet<u32>,
     steps: &mut Steps,
 ) -> Result<(), AllocError>
-    requires stands { IsStanding tables.old }
+    requires sound { AreSoundTables tables.old }
     ensures ok { OnOk result (AcceptsReady mode due.old.keys tables.old tables.new steps.old steps.new) }
     ensures extends { Extends tables.old tables.new }
 {
@@ -46,7 +46,7 @@ fn accept_next(
     number: u32,
     due: &mut BTreeSet<u32>,
 ) -> Result<(), AllocError>
-    requires stands { IsStanding tables.old }
+    requires sound { AreSoundTables tables.old }
     requires held { number < length tables.old.held }
     requires ready { (b : Body) → slice_get tables.old.held number ≡ Some b
         → ready.is_ready mode (told_of tables.old) (log_of tables.old) b ≡ true }
@@ -67,7 +67,7 @@ fn next_ready(
     due: &mut BTreeSet<u32>,
     steps: &mut Steps,
 ) -> Option<u32>
-    requires stands { IsStanding tables.now }
+    requires sound { AreSoundTables tables.now }
     ensures some { IfSome result (λ n. IsNext mode tables.now due.old.keys due.new.keys n steps.old steps.new) }
     ensures none { IfNone result (IsOver mode tables.now due.old.keys steps.old steps.new) }
 {
@@ -81,7 +81,7 @@ fn next_ready(
 
 // Whether the event of a number is ready. It is one look.
 fn is_due(tables: &Tables, mode: Mode, number: u32, steps: &mut Steps) -> bool
-    requires stands { IsStanding tables.now }
+    requires sound { AreSoundTables tables.now }
     ensures ready { result ≡ true → IsReadyAt mode tables.now number }
     ensures not_ready { result ≡ false → (b : Body) → slice_get tables.now.held number ≡ Some b
         → ready.is_ready mode (told_of tables.now) (log_of tables.now) b ≡ false }

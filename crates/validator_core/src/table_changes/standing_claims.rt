@@ -1,7 +1,7 @@
 //! The claims that entries tell of, raised where the events that they are on stand.
 ghost use Rattle.std.specs.Prelude.{◌≡◌, ◌<◌, false, length, slice_get, IfNone, IfSome, None, OnOk, OnErr, Some};
 ghost use Rattle.validator_core.specs.Acceptance.Footing.{IsFooting};
-ghost use Rattle.validator_core.specs.Acceptance.Standing.{Extends, IsStanding, told_of};
+ghost use Rattle.validator_core.specs.Acceptance.Standing.{Extends, AreSoundTables, told_of};
 ghost use Rattle.validator_core.specs.Tables.Raised.{RaisesSome, claims_at};
 ghost use Rattle.validator_core.specs.Tables.View.{log_of, with_rows};
 ghost use Rattle.journal.specs.Journal.History.{claims_on};
@@ -57,7 +57,7 @@ pub(crate) fn raise_receipt(
     entry: u32,
 ) -> Result<(), AllocError>
     requires { IsReceipted name.now entry tables.old }
-    ensures ok { OnOk result (IsStanding tables.new) }
+    ensures ok { OnOk result (AreSoundTables tables.new) }
     ensures rows { tables.new ≡ with_rows tables.new.claims.rows tables.old }
     ensures extends { Extends tables.old tables.new }
 {

@@ -1,6 +1,6 @@
 //! Verdicts that are heard.
 ghost use Rattle.std.specs.Prelude.{◌≡◌, ◌<◌, true, None, OnOk, OnErr, length};
-ghost use Rattle.validator_core.specs.Acceptance.Standing.{Hears, IsStanding};
+ghost use Rattle.validator_core.specs.Acceptance.Standing.{Hears, AreSoundTables};
 ghost use Rattle.claim_table.specs.ClaimTable.Rows.{is_raised, verdict_of};
 ghost use Rattle.validator_core.specs.TableChanges.Entries.{signature_asked};
 
@@ -17,7 +17,7 @@ pub fn enter_verdict(
     question: &Question,
     yes: bool,
 ) -> Result<(), AllocError>
-    requires stands { IsStanding tables.old }
+    requires sound { AreSoundTables tables.old }
     requires held { question.now.body < length tables.old.held }
     requires raised { is_raised tables.old.claims.rows (signature_asked question.now) ≡ true }
     requires open_still { verdict_of tables.old.claims.rows (signature_asked question.now) ≡ None }

@@ -1,7 +1,7 @@
 //! Whether an event is one that another may wait for.
 ghost use Rattle.std.specs.Prelude.{◌≡◌, ◌&&◌, ℕ, List, not, slice_get};
 ghost use Rattle.validator_core.specs.Tables.View.{body_of, log_of};
-ghost use Rattle.validator_core.specs.Acceptance.Standing.{IsStanding};
+ghost use Rattle.validator_core.specs.Acceptance.Standing.{AreSoundTables};
 ghost use Rattle.claim_table.specs.CoreLaws.Waking as waking;
 ghost use Rattle.event_body.specs.EventBody.Events as events;
 ghost use Rattle.journal.specs.Journal.Logs as logs;
@@ -20,7 +20,7 @@ use key_state::spelled_is_kept;
 /// Whether the event of the second number may wait for that of the first, which comes next: this is right before it or, in
 /// `Full` mode, the first of its delegator that seals it. It takes no memory.
 pub(crate) fn is_awaited_at(tables: &Tables, mode: Mode, number: u32, waiting: u32) -> bool
-    requires stands { IsStanding tables.now }
+    requires sound { AreSoundTables tables.now }
     ensures { result ≡ awaited.is_awaited_there mode (log_of tables.now) (slice_get tables.now.held number)
         (slice_get tables.now.held waiting) }
 {
@@ -36,7 +36,7 @@ pub(crate) fn is_awaited_at(tables: &Tables, mode: Mode, number: u32, waiting: u
 
 // Whether the one event may wait for the other.
 fn is_awaited(tables: &Tables, mode: Mode, event: &Event, waiting: &Event) -> bool
-    requires stands { IsStanding tables.now }
+    requires sound { AreSoundTables tables.now }
     requires kept { IsKept event.now }
     ensures { (bs cs : List ℕ) → result
         ≡ awaited.is_awaited mode (log_of tables.now) (body_of cs event.now) (body_of bs waiting.now) }
@@ -56,7 +56,7 @@ fn is_full(mode: Mode) -> bool
 
 // Whether the event is the first of the other one's delegator that seals it.
 fn seals_first(tables: &Tables, event: &Event, waiting: &Event) -> bool
-    requires stands { IsStanding tables.now }
+    requires sound { AreSoundTables tables.now }
     ensures { (bs cs : List ℕ) → result
         ≡ waking.seals_first (log_of tables.now) (body_of cs event.now) (body_of bs waiting.now) }
 {
@@ -71,7 +71,7 @@ fn seals_first(tables: &Tables, event: &Event, waiting: &Event) -> bool
 
 // The delegator of an event behind the log.
 fn delegator(tables: &Tables, event: &Event) -> Option<Prefix>
-    requires stands { IsStanding tables.now }
+    requires sound { AreSoundTables tables.now }
     ensures { result ≡ seals.delegator_of (logs.state (log_of tables.now) (events.prefix_of event.now)) event.now }
 {
     delegator_of(tables.log().current(&event.prefix()), event)

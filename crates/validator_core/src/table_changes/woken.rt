@@ -10,7 +10,7 @@ ghost use Rattle.event_backing.specs.declared.event_seal.EventSeal.{EventSeal as
 ghost use Rattle.escrow.specs.Escrow.Escrow.{Waits};
 ghost use Rattle.journal.specs.declared.journal.body.Body.{Body};
 ghost use Rattle.validator_core.specs.Tables.View.{log_of};
-ghost use Rattle.validator_core.specs.Acceptance.Standing.{IsStanding};
+ghost use Rattle.validator_core.specs.Acceptance.Standing.{AreSoundTables};
 ghost use Rattle.validator_core.specs.TableChanges.Awaited.{HasAllWoken, IsNextAt, has_all_awaited, is_awaited_there};
 
 use crate::acceptance::is_there;
@@ -31,7 +31,7 @@ pub(crate) fn numbers_woken(
     mode: Mode,
     number: u32,
 ) -> Result<Vec<u32>, AllocError>
-    requires stands { IsStanding tables.now }
+    requires sound { AreSoundTables tables.now }
     ensures all { IfOk result (λ numbers. HasAllWoken mode tables.now number numbers.items) }
     ensures waits { IfOk result (λ numbers. (n : ℕ) → Contains numbers.items n
         → is_awaited_there mode (log_of tables.now) (slice_get tables.now.held number)
@@ -49,7 +49,7 @@ fn waiters(
     number: u32,
     numbers: &[u32],
 ) -> Result<Vec<u32>, AllocError>
-    requires stands { IsStanding tables.now }
+    requires sound { AreSoundTables tables.now }
     ensures { IfOk result (λ those. those.items
         ≡ filter (λ n. is_awaited_there mode (log_of tables.now) (slice_get tables.now.held number)
         (slice_get tables.now.held n)) numbers.now) }
@@ -71,7 +71,7 @@ fn numbers_named(
     mode: Mode,
     number: u32,
 ) -> Result<Vec<u32>, AllocError>
-    requires stands { IsStanding tables.now }
+    requires sound { AreSoundTables tables.now }
     ensures all { IfOk result (λ numbers. HasAllWoken mode tables.now number numbers.items) }
 {
     sealed_by_parts();
@@ -126,7 +126,7 @@ pub(crate) fn add_due(
     numbers: &[u32],
     due: &mut BTreeSet<u32>,
 ) -> Result<(), AllocError>
-    requires stands { IsStanding tables.now }
+    requires sound { AreSoundTables tables.now }
     ensures kept { (n : ℕ) → Contains due.old.keys n → Contains due.new.keys n }
     ensures there { OnOk result ((n : ℕ) (b : Body) → Contains numbers.now n → slice_get tables.now.held n ≡ Some b
         → has_all_awaited mode (log_of tables.now) b ≡ true → Contains due.new.keys n) }
@@ -147,7 +147,7 @@ fn add_if_there(
     number: u32,
     due: &mut BTreeSet<u32>,
 ) -> Result<(), AllocError>
-    requires stands { IsStanding tables.now }
+    requires sound { AreSoundTables tables.now }
     ensures kept { (n : ℕ) → Contains due.old.keys n → Contains due.new.keys n }
     ensures there { OnOk result ((b : Body) → slice_get tables.now.held number ≡ Some b
         → has_all_awaited mode (log_of tables.now) b ≡ true → Contains due.new.keys number) }
@@ -164,7 +164,7 @@ fn add_if_there(
 
 // Whether the event of a number isn't accepted, and has all that it waits for in the log.
 fn is_next(tables: &Tables, mode: Mode, number: u32) -> bool
-    requires stands { IsStanding tables.now }
+    requires sound { AreSoundTables tables.now }
     ensures { (b : Body) → slice_get tables.now.held number ≡ Some b
         → result ≡ (not (list_any (λ m. m == number) tables.now.log.numbers)
         && (waking.is_there (log_of tables.now) b && is_anchored mode (log_of tables.now) b)) }

@@ -3,7 +3,7 @@ ghost use Rattle.std.specs.Prelude.{◌≡◌, ◌<◌, length, slice_get, Some,
 ghost use Rattle.std.specs.Option.{option_copied};
 ghost use Rattle.event_body.specs.declared.event_body.event.Event.{Event as EventValue};
 ghost use Rattle.key_state.specs.Kept.{IsKept};
-ghost use Rattle.validator_core.specs.Tables.EntryClaims.{all_came_to, came_to, is_receipt_of, stands_on};
+ghost use Rattle.validator_core.specs.Tables.EntryClaims.{all_came_to, came_to, is_receipt_of, bears_on};
 ghost use Rattle.validator_core.specs.Tables.RaisedRows.{RaisesRows, RaisesSomeRows};
 
 use crate::tables::raised_claims::raise_claims;
@@ -64,7 +64,7 @@ pub fn claims_by<'a>(events: &[Event], entry: Option<&'a Entry>, number: u32) ->
 {
     match entry {
         Some(Entry::Took { body, claims, .. }) => {
-            if stands_on(events, *body, number) {
+            if bears_on(events, *body, number) {
                 claims.as_slice()
             } else {
                 &[]
@@ -75,8 +75,8 @@ pub fn claims_by<'a>(events: &[Event], entry: Option<&'a Entry>, number: u32) ->
 }
 
 // Whether what came with the body of a number stands on another: it is that body, or a receipt of it.
-fn stands_on(events: &[Event], came: u32, number: u32) -> bool
-    ensures { result ≡ stands_on events.now came number }
+fn bears_on(events: &[Event], came: u32, number: u32) -> bool
+    ensures { result ≡ bears_on events.now came number }
 {
     came == number || is_receipt_of(events.get(came as usize), events.get(number as usize))
 }

@@ -20,7 +20,7 @@ ghost use Rattle.validator_core.specs.Tables.Rows.{event_there, is_named, is_num
 ghost use Rattle.validator_core.specs.Tables.View.{body_of, log_of, with_log};
 
 use crate::tables::Tables;
-use crate::tables::held::held;
+use crate::tables::in_range::in_range;
 use crate::tables::name::{Name, SealKey, has_name, name_of, prior_name};
 use crate::tables::named_places::NamedPlaces;
 use crate::tables::tables::event_at;
@@ -78,7 +78,7 @@ impl Tables {
         ensures { result ≡ is_sealed (log_of self.now) delegator.now event.now }
     {
         let name = name_of(event);
-        held(name);
+        in_range(name);
         let key = SealKey {
             holder: *delegator,
             name,

@@ -1,6 +1,6 @@
 //! Accepted events, by their places, and the numbers of bodies.
 ghost use Rattle.std.specs.Prelude.{◌≡◌, ◌==◌, IfNone, IfSome, Some, ℕ, false, position, slice_get};
-ghost use Rattle.validator_core.specs.Acceptance.Standing.{IsStanding};
+ghost use Rattle.validator_core.specs.Acceptance.Standing.{AreSoundTables};
 ghost use Rattle.validator_core.specs.Tables.View.{body_of, log_of};
 ghost use Rattle.event_body.specs.EventBody.Judging.{SpellsEvent};
 ghost use Rattle.journal.specs.EventRules.Additions.{is_number};
@@ -55,7 +55,7 @@ impl Core {
 
 // The place of the commitment that a signature on the event at a place of the log opens.
 fn reveal_in(tables: &Tables, place: usize, sig: &IndexedSig) -> Option<u16>
-    requires { IsStanding tables.now }
+    requires { AreSoundTables tables.now }
     ensures { (b : Body) → slice_get (log_of tables.now) place ≡ Some b → (n : ℕ)
         → is_number result n ≡ opens_under (log_of tables.now) b n sig.now }
 {
@@ -70,7 +70,7 @@ fn reveal_in(tables: &Tables, place: usize, sig: &IndexedSig) -> Option<u16>
 
 // Whether a key is among the own witnesses of the event at a place of the log.
 fn is_witness_in(tables: &Tables, place: usize, key: &Key) -> bool
-    requires { IsStanding tables.now }
+    requires { AreSoundTables tables.now }
     ensures { (b : Body) → slice_get (log_of tables.now) place ≡ Some b
         → result ≡ is_witness_under (log_of tables.now) b key.now }
 {

@@ -2,7 +2,7 @@
 ghost use Rattle.std.specs.Prelude.{◌≡◌, ◌++◌, ℕ, List, IfOk, OnOk, Some, filter_map, slice_get};
 ghost use Rattle.std.specs.Option.{option_copied};
 ghost use Rattle.validator_core.specs.Acceptance.Standing as standing;
-ghost use Rattle.validator_core.specs.Acceptance.Standing.{IsStanding};
+ghost use Rattle.validator_core.specs.Acceptance.Standing.{AreSoundTables};
 ghost use Rattle.validator_core.specs.Tables.View.{body_of, log_of};
 ghost use Rattle.validator_core.specs.ValidatorCore.Signatures.{good_claim, good_in, good_on, good_under};
 ghost use Rattle.validator_core.specs.ValidatorCore.View.{accepted_by, told_of};
@@ -48,7 +48,7 @@ fn signatures_under(
     tables: &Tables,
     place: usize,
 ) -> Result<Vec<IndexedSig>, AllocError>
-    requires { IsStanding tables.now }
+    requires { AreSoundTables tables.now }
     ensures { IfOk result (λ sigs. (b : Body) → slice_get (log_of tables.now) place ≡ Some b
         → sigs.items ≡ good_under (standing.told_of tables.now) (log_of tables.now) b) }
 {
@@ -71,7 +71,7 @@ pub(crate) fn number_at(numbers: &[u32], place: usize) -> Option<u32>
 
 // The good signatures on the body of a number, where it stands.
 fn signatures_on(alloc: Global, tables: &Tables, number: u32) -> Result<Vec<IndexedSig>, AllocError>
-    requires { IsStanding tables.now }
+    requires { AreSoundTables tables.now }
     ensures { IfOk result (λ sigs. (b : Body) → slice_get tables.now.held number ≡ Some b
         → sigs.items ≡ good_in (standing.told_of tables.now) (log_of tables.now) b) }
 {
@@ -95,7 +95,7 @@ fn signatures_behind(
     event: &Event,
     state: Option<&KeyState>,
 ) -> Result<Vec<IndexedSig>, AllocError>
-    requires { IsStanding tables.now }
+    requires { AreSoundTables tables.now }
     ensures { IfOk result (λ sigs. (bytes : List ℕ)
         → slice_get tables.now.held number ≡ Some (body_of bytes event.now)
         → sigs.items ≡ good_sigs (standing.told_of tables.now) (option_copied state.entry) (body_of bytes event.now)) }

@@ -5,7 +5,7 @@ ghost use Rattle.validator_core.specs.Tables.Hints.{IsEscrow};
 ghost use Rattle.journal.specs.Journal.Journals.{chosen};
 ghost use Rattle.journal.specs.Journal.Logs as logs;
 ghost use Rattle.validator_core.specs.ValidatorCore.Confluent.{IsSoInAlike};
-ghost use Rattle.validator_core.specs.ValidatorCore.View.{Stands, accepted_by, state_of, waits_for};
+ghost use Rattle.validator_core.specs.ValidatorCore.View.{IsSoundCore, accepted_by, state_of, waits_for};
 
 use crate::acceptance::why_waits;
 use crate::tables::Tables;
@@ -69,14 +69,14 @@ impl Core {
     pub fn journal(&self) -> &Journal
         ensures bodies { result.now.bodies ≡ map (λ b. b.bytes) self.now.held }
         ensures entries { result.now.entries ≡ self.now.entries }
-        ensures stands { Stands self.now }
+        ensures sound { IsSoundCore self.now }
     {
         self.tables.journal()
     }
 
     /// What is true of each core, stated for proofs. Nothing is done here.
-    pub fn stands(&self)
-        ensures stands { Stands self.now }
+    pub fn sound(&self)
+        ensures sound { IsSoundCore self.now }
         ensures held { All (λ n. n < length self.now.held) self.now.accepted }
         ensures accepted { chosen self.now.held self.now.accepted ≡ accepted_by self.now }
     {
@@ -88,7 +88,7 @@ impl Core {
     pub fn into_journal(self) -> Journal
         ensures bodies { result.bodies ≡ map (λ b. b.bytes) self.held }
         ensures entries { result.entries ≡ self.entries }
-        ensures stands { Stands self }
+        ensures sound { IsSoundCore self }
     {
         let Core { tables, .. } = self;
         tables.into_journal()

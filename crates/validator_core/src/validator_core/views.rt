@@ -1,7 +1,7 @@
 //! What the accepted events and the bodies show.
 ghost use Rattle.std.specs.Prelude.{◌≡◌, ◌<◌, ◌≤◌, List, length, map, filter, All, IfOk};
 ghost use Rattle.validator_core.specs.Acceptance.Standing as standing;
-ghost use Rattle.validator_core.specs.Acceptance.Standing.{IsStanding};
+ghost use Rattle.validator_core.specs.Acceptance.Standing.{AreSoundTables};
 ghost use Rattle.validator_core.specs.Tables.View.{log_of};
 ghost use Rattle.journal.specs.declared.journal.body.Body.{Body};
 ghost use Rattle.journal.specs.Journal.Conflicts as conflicts;
@@ -59,7 +59,7 @@ impl Core {
 
 // The numbers of the bodies that count.
 fn counted(alloc: Global, tables: &Tables) -> Result<Vec<u32>, AllocError>
-    requires { IsStanding tables.now }
+    requires { AreSoundTables tables.now }
     ensures those { IfOk result (λ numbers. chosen tables.now.held numbers.items
         ≡ filter (conflicts.counts (standing.told_of tables.now) (log_of tables.now)) tables.now.held) }
     ensures held { IfOk result (λ numbers. All (λ n. n < length tables.now.held) numbers.items) }

@@ -2,7 +2,7 @@
 ghost use Rattle.std.specs.Prelude.{◌≡◌, ◌<◌, ◌∷◌, ◌⊎◌, ◌↔◌, [], ℕ, false, true, None, Contains, IfOk, OnOk, OnErr, length};
 ghost use Rattle.std.specs.List.Sorted.{IsStrictlySortedBy};
 ghost use Rattle.std.specs.Ordering.{nat_cmp};
-ghost use Rattle.validator_core.specs.Acceptance.Standing.{Extends, IsHeld, IsStanding};
+ghost use Rattle.validator_core.specs.Acceptance.Standing.{Extends, IsHeld, AreSoundTables};
 ghost use Rattle.claim_table.specs.ClaimTable.Rows.{is_raised, verdict_of};
 ghost use Rattle.validator_core.specs.Tables.View.{IsCut, rewound};
 ghost use Rattle.journal.specs.declared.journal.entry.Entry.TheVariants.{Took};
@@ -28,7 +28,7 @@ pub(crate) fn add_claims(
     claims: Items<Claim>,
     steps: &mut Steps,
 ) -> Result<(), AllocError>
-    requires stands { IsStanding tables.old }
+    requires sound { AreSoundTables tables.old }
     requires idle { tables.old.claims.pending ≡ None }
     requires left { tables.old.released ≡ length tables.old.log.numbers }
     requires held { number < length tables.old.held }
@@ -59,7 +59,7 @@ pub(crate) fn add_body(
     claims: Items<Claim>,
     steps: &mut Steps,
 ) -> Result<(), AllocError>
-    requires stands { IsStanding tables.old }
+    requires sound { AreSoundTables tables.old }
     requires idle { tables.old.claims.pending ≡ None }
     requires left { tables.old.released ≡ length tables.old.log.numbers }
     requires held { IsHeld body }
@@ -91,7 +91,7 @@ pub(crate) fn add_verdict(
     yes: bool,
     steps: &mut Steps,
 ) -> Result<(), AllocError>
-    requires stands { IsStanding tables.old }
+    requires sound { AreSoundTables tables.old }
     requires idle { tables.old.claims.pending ≡ None }
     requires left { tables.old.released ≡ length tables.old.log.numbers }
     requires held { question.now.body < length tables.old.held }
@@ -138,7 +138,7 @@ fn accept_from(
     number: u32,
     steps: &mut Steps,
 ) -> Result<(), AllocError>
-    requires stands { IsStanding tables.old }
+    requires sound { AreSoundTables tables.old }
     requires left { tables.old.released ≡ length tables.old.log.numbers }
     ensures ok { OnOk result (AcceptsFrom mode number tables.old tables.new steps.old steps.new) }
     ensures extends { Extends tables.old tables.new }
@@ -150,7 +150,7 @@ fn accept_from(
 // The numbers of the waiting events with the digest that the body of a number names: its own, or of a receipt that of the
 // event it speaks of.
 fn candidates(alloc: Global, tables: &Tables, number: u32) -> Result<BTreeSet<u32>, AllocError>
-    requires stands { IsStanding tables.now }
+    requires sound { AreSoundTables tables.now }
     requires left { tables.now.released ≡ length tables.now.log.numbers }
     ensures named { IfOk result (λ due. HaveNumbers tables.now number due.keys) }
     ensures no_others { IfOk result (λ due. HaveNoOthers tables.now number due.keys) }

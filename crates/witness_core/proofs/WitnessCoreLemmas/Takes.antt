@@ -11,7 +11,7 @@ use Rattle.journal.specs.Journal.History.{Told, bodies, heard, took}
 use Rattle.shelf_log.specs.KeriDisk.Images.{DiskShown}
 use Rattle.shelf_log.proofs.KeriDiskLemmas.Moments.{KnowsNow}
 use Rattle.keri_outside.specs.declared.limits.Limits.{Limits}
-use Rattle.validator_core.specs.ValidatorCore.View.{CoreView, Stands, base_of, told_of}
+use Rattle.validator_core.specs.ValidatorCore.View.{CoreView, IsSoundCore, base_of, told_of}
 use Rattle.validator_core.specs.ValidatorCore.Verdicts.{IsVerdict}
 use Rattle.validator_core.proofs.ValidatorCoreLemmas.Bodies.{bodies_heard}
 use Rattle.witness_core.specs.WitnessStore.Faults.{AskFault, StoreFault}
@@ -79,7 +79,7 @@ module _ (says : Key → List ℕ → Sig → Option Bool) where
       ∙ bodies_heard base earlier reader b key sig verdict
   verdicts_add base earlier (took reader b claims ∷ verdicts) each = absurd (All-head (IsVerdict says) (took reader b claims) verdicts each)
 
-  module _ (mid new : CoreView) (known : IsKnown mid) (stands : Stands new) (hears : Hears says mid new) where
+  module _ (mid new : CoreView) (known : IsKnown mid) (stands : IsSoundCore new) (hears : Hears says mid new) where
     held_still : new.held ≡ mid.held
     held_still =
         stands.in_order

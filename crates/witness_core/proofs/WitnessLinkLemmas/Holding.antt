@@ -26,7 +26,7 @@ use Rattle.shelf_log.specs.KeriDisk.Images.{DiskShown}
 use Rattle.keri_outside.specs.declared.limits.Limits.{Limits}
 use Rattle.validator_core.specs.ValidatorCore.Signatures.{is_witness_under}
 use Rattle.quorum_laws.proofs.Inside.{accepted_inside}
-use Rattle.validator_core.specs.ValidatorCore.View.{CoreView, Follows, Stands, accepted_by, base_of, told_of}
+use Rattle.validator_core.specs.ValidatorCore.View.{CoreView, Follows, IsSoundCore, accepted_by, base_of, told_of}
 use Rattle.witness_core.specs.WitnessStore.Histories.{History, history_of}
 use Rattle.witness_core.specs.WitnessStore.Payloads.{AreListed, IsPayload, Pointwise}
 use Rattle.witness_core.specs.WitnessCore.Outcomes.{TellsFate, due_by}
@@ -103,17 +103,17 @@ by_payloads mode base told (b ∷ bs) (p ∷ ps) all spelled =
     (All-weaker (HasEvent ps) (HasEvent (p ∷ ps)) (λ c has. has_behind (p ∷ []) ps c has) bs (by_payloads mode base told bs ps all.1 (All-tail Spelled b bs spelled)))
 
 -- each accepted event is spelled by its bytes
-pub all_held : (core : CoreView) → Stands core → All IsHeld (accepted_by core)
+pub all_held : (core : CoreView) → IsSoundCore core → All IsHeld (accepted_by core)
 all_held core stands =
     accepted_inside IsHeld core.mode (base_of core) (told_of core) (All-take IsHeld core.base core.held stands.spelled) (subst (All IsHeld) stands.in_order stands.spelled)
 
 -- and so is one that a body may spell
-pub all_kept : (core : CoreView) → Stands core → ((event : Event) (bytes : List ℕ) → SpellsEvent event bytes → IsKept event) → All (λ b. IsKept b.event) (accepted_by core)
+pub all_kept : (core : CoreView) → IsSoundCore core → ((event : Event) (bytes : List ℕ) → SpellsEvent event bytes → IsKept event) → All (λ b. IsKept b.event) (accepted_by core)
 all_kept core stands spelled = All-weaker IsHeld (λ b. IsKept b.event) (λ b held. spelled b.event b.bytes held.spelled) (accepted_by core) (all_held core stands)
 
 -- and so it has each accepted event
 pub stored_accepted : (core : CoreView) (list : List (List ℕ)) (limits : Limits) (broken : Bool) (shown : DiskShown) (room : Room) → All (λ b. IsKept b.event) (accepted_by core)
-    → AreStored (history_of core) list limits broken shown room → Stands core → HoldsAccepted core list
+    → AreStored (history_of core) list limits broken shown room → IsSoundCore core → HoldsAccepted core list
 stored_accepted core list limits broken shown room keeps stored stands =
     let way = stored.on_way in
     let base = base_of core in

@@ -27,7 +27,7 @@ use Rattle.key_state.specs.Kept.{IsKept}
 use Rattle.shelf_log.specs.KeriDisk.Images.{DiskShown}
 use Rattle.keri_outside.specs.declared.limits.Limits.{Limits}
 use Rattle.quorum_laws.specs.Histories.{AreLevel}
-use Rattle.validator_core.specs.ValidatorCore.View.{CoreView, Follows, Stands, accepted_by, base_of, told_of}
+use Rattle.validator_core.specs.ValidatorCore.View.{CoreView, Follows, IsSoundCore, accepted_by, base_of, told_of}
 use Rattle.witness_core.specs.WitnessStore.Histories.{history_of}
 use Rattle.witness_core.specs.WitnessCore.Outcomes.{TellsFate}
 use Rattle.witness_core.specs.WitnessStore.Payloads.{AreListed, IsPayload, Pointwise}
@@ -97,7 +97,7 @@ listed_begins core list keeps listed =
     (by_payloads log core.mode (base_of core) (told_of core) (drop core.base log) listed.more listed.each (All-drop (Contains log) core.base log all)))
 
 -- LAWFUL: So a list of the accepted events is lawful, where the core began with one that acceptance can make.
-pub lawful_list : (core : CoreView) (list : List (List ℕ)) → Stands core → All (λ b. IsKept b.event) (accepted_by core) → IsGrown (base_of core) → AreListed core list → IsLawfulList list
+pub lawful_list : (core : CoreView) (list : List (List ℕ)) → IsSoundCore core → All (λ b. IsKept b.event) (accepted_by core) → IsGrown (base_of core) → AreListed core list → IsLawfulList list
 lawful_list core list stands keeps grown listed b c has has' level =
     let log = accepted_by core in
     let begins = listed_begins core list keeps listed in
@@ -116,7 +116,7 @@ lawful_list core list stands keeps grown listed b c has has' level =
 
 -- SOUND: so it is with what is stored, whatever else is seen of the witness
 pub sound : (core : CoreView) (list : List (List ℕ)) (shelf_limits : Limits) (shelf_broken : Bool) (shown : DiskShown) (room : Room) → AreStored (history_of core) list shelf_limits shelf_broken shown room
-    → Stands core → All (λ b. IsKept b.event) (accepted_by core) → (key : Key) (limits : Limits) (broken : Bool) → IsSound (record { key = key; limits = limits; core = core; list = list; disk = shown; broken = broken })
+    → IsSoundCore core → All (λ b. IsKept b.event) (accepted_by core) → (key : Key) (limits : Limits) (broken : Bool) → IsSound (record { key = key; limits = limits; core = core; list = list; disk = shown; broken = broken })
 sound core list shelf_limits shelf_broken shown room stored stands keeps key limits broken =
     let listed = stored_listed core list shelf_limits shelf_broken shown room keeps stored in
     let read = reads_again core list shelf_limits shelf_broken shown room stored in

@@ -10,7 +10,7 @@ use Rattle.journal.specs.declared.journal.resume_fault.ResumeFault.TheVariants.{
 use Rattle.journal.proofs.JournalLemmas.Keeping.{accepted_grown}
 use Rattle.quorum_laws.proofs.Inside.{All-front}
 use Rattle.validator_core.specs.ValidatorCore.Base.{EndsAt, IsRead}
-use Rattle.validator_core.specs.ValidatorCore.View.{CoreView, Stands, accepted_by, base_of, told_of}
+use Rattle.validator_core.specs.ValidatorCore.View.{CoreView, IsSoundCore, accepted_by, base_of, told_of}
 use Rattle.witness_core.specs.WitnessStore.Starts.{ReadsAgain, StartsAgain, texts_in}
 use Rattle.witness_core.proofs.WitnessLinkLemmas.Holding.{all_held}
 
@@ -65,7 +65,7 @@ no_end log texts n texts_are grown held ends =
     held_at (c ∷ front) b later all = held_at front b later (All-tail IsHeld c (front ++ b ∷ later) all)
 
 -- STARTS AGAIN
-pub starts_again : (core : CoreView) (list : List (List ℕ)) → Stands core → IsGrown (base_of core) → ReadsAgain core list → StartsAgain list
+pub starts_again : (core : CoreView) (list : List (List ℕ)) → IsSoundCore core → IsGrown (base_of core) → ReadsAgain core list → StartsAgain list
 starts_again core list stands grown reads OutOfMemory none = refl
 starts_again core list stands grown reads (NotALog n) none =
     absurd (no_end (accepted_by core) (texts_in list) n reads (accepted_grown core.mode (base_of core) (told_of core) grown) (all_held core stands) none)

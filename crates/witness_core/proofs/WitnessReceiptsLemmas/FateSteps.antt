@@ -13,7 +13,7 @@ use Rattle.journal.specs.Journal.Waiting.{why_waits}
 use Rattle.journal.specs.Journal.Journals.{chosen}
 use Rattle.journal.proofs.JournalLemmas.Places.{all_at, some_at}
 use Rattle.validator_core.specs.ValidatorCore.Signatures.{is_witness_under}
-use Rattle.validator_core.specs.ValidatorCore.View.{CoreView, Stands, accepted_by, told_of, waits_for}
+use Rattle.validator_core.specs.ValidatorCore.View.{CoreView, IsSoundCore, accepted_by, told_of, waits_for}
 use Rattle.witness_core.specs.declared.witness_receipts.fate.Fate.{Fate}
 use Rattle.witness_core.specs.declared.witness_receipts.fate.Fate.TheVariants.{Stored}
 use Rattle.witness_core.specs.WitnessReceipts.Fates.{event_fate, waiting_fate}
@@ -25,7 +25,7 @@ module _ (core : CoreView) (n : ℕ) (b : Body) (at : slice_get core.held n ≡ 
   waits_is = rw at refl
 
   -- an event that isn't stored waits for a reason
-  pub some_reason : Stands core → is_receipt b.event ≡ false → is_in (accepted_by core) b ≡ false → None ≡ waits_for core n → ⊥
+  pub some_reason : IsSoundCore core → is_receipt b.event ≡ false → is_in (accepted_by core) b ≡ false → None ≡ waits_for core n → ⊥
   some_reason stands event out none =
       let ready = no_reason core.mode (told_of core) (accepted_by core) b (sym (none ∙ waits_is)) event out in
       let settled = all_at (λ c. is_ready core.mode (told_of core) (accepted_by core) c ≡ false) core.held stands.settled n b at in

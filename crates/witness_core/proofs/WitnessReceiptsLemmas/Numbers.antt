@@ -17,10 +17,10 @@ use Rattle.journal.proofs.JournalLemmas.Different.{Differ, differ-distinct}
 use Rattle.journal.proofs.JournalLemmas.Places.{all_at, any_at, found_at, some_at}
 use Rattle.validator_core.proofs.AcceptanceLemmas.Bodies.{among}
 use Rattle.key_state.proofs.Same.{number_itself, numbers}
-use Rattle.validator_core.specs.ValidatorCore.View.{CoreView, Stands, accepted_by, base_of, told_of}
+use Rattle.validator_core.specs.ValidatorCore.View.{CoreView, IsSoundCore, accepted_by, base_of, told_of}
 
 -- no two bodies of a core are the same
-pub apart : (core : CoreView) → Stands core → Differ same_body core.held
+pub apart : (core : CoreView) → IsSoundCore core → Differ same_body core.held
 unfolding bodies
 apart core stands = subst (Differ same_body) (sym stands.in_order) (differ-distinct same_body (base_of core ++ flat_map taken (told_of core)))
 
@@ -153,7 +153,7 @@ module _ {X : Type 0} (q : X → Bool) (xs : List X) (front : ℕ) where
     first_within d = (position-Some q xs p d h).0
 
 -- ACCEPTED: by the place of its number among the accepted ones, a body is accepted, and stands at that place
-module _ (core : CoreView) (stands : Stands core) (low : All (λ n. n < length core.held) core.accepted) (are : chosen core.held core.accepted ≡ accepted_by core)
+module _ (core : CoreView) (stands : IsSoundCore core) (low : All (λ n. n < length core.held) core.accepted) (are : chosen core.held core.accepted ≡ accepted_by core)
     (n : ℕ) (b : Body) (at : slice_get core.held n ≡ Some b) where
   accepted_by_number : is_in (accepted_by core) b ≡ list_any (λ m. m == n) core.accepted
   accepted_by_number =

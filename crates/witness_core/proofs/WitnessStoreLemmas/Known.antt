@@ -9,16 +9,16 @@ use Rattle.journal_views.specs.EventPayload.Payloads.{payload_of}
 use Rattle.journal.specs.declared.journal.body.Body.{Body}
 use Rattle.journal.specs.Journal.Journals.{chosen}
 use Rattle.journal.proofs.JournalLemmas.Places.{all_at, some_at}
-use Rattle.validator_core.specs.ValidatorCore.View.{CoreView, Stands, accepted_by, told_of}
+use Rattle.validator_core.specs.ValidatorCore.View.{CoreView, IsSoundCore, accepted_by, told_of}
 use Rattle.witness_core.specs.WitnessStore.Payloads.{payload_now}
 use Rattle.witness_core.specs.WitnessStore.Room.{IsKnown}
 use Rattle.witness_core.proofs.WitnessStoreLemmas.Lists.{map_at}
 use Rattle.witness_core.proofs.WitnessStoreLemmas.Waits.{chosen_at, chosen_length}
 
 module _ (core : CoreView) (numbers : List ℕ) (below : All (λ n. n < length core.held) numbers) (names : chosen core.held numbers ≡ accepted_by core) where
-  pub known_by : numbers ≡ core.accepted → Stands core → IsKnown core
+  pub known_by : numbers ≡ core.accepted → IsSoundCore core → IsKnown core
   known_by are stands = record {
-    stands = stands;
+    sound = stands;
     held = subst (λ ns. All (λ n. n < length core.held) ns) are below;
     accepted = subst (λ ns. chosen core.held ns ≡ accepted_by core) are names;
   }
@@ -35,7 +35,7 @@ module _ (core : CoreView) (numbers : List ℕ) (below : All (λ n. n < length c
     pub body_there : (d : ℕ) → slice_get core.held (get_or numbers place d) ≡ Some b
     body_there d = ap (slice_get core.held) (get_or_from_slice_get numbers place there.0 d there.1) ∙ there.2
 
-    pub held_there : Stands core → IsHeld b
+    pub held_there : IsSoundCore core → IsHeld b
     held_there stands = all_at IsHeld core.held stands.spelled there.0 b there.2
 
     -- and by it its bytes are read

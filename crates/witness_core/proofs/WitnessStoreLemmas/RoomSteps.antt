@@ -31,7 +31,7 @@ use Rattle.witness_core.proofs.WitnessStoreLemmas.Waits.{AreAmong, accepted_less
 
 -- the bodies that are held are those that came
 pub held_is : (core : CoreView) → IsKnown core → core.held ≡ bodies_in (history_of core)
-held_is core known = known.stands.in_order
+held_is core known = known.sound.in_order
 
 pub held_differ : (core : CoreView) → IsKnown core → Differ same_body core.held
 held_differ core known = subst (Differ same_body) (sym (held_is core known)) (bodies_differ (history_of core).base (history_of core).told)

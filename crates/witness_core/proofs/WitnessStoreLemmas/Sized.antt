@@ -24,7 +24,7 @@ use Rattle.witness_core.proofs.WitnessStoreLemmas.Waits.{chosen_at}
 
 module _ (core : CoreView) (known : IsKnown core) (spelled : (event : Event) (bytes : List ℕ) → SpellsEvent event bytes → IsKept event) (place : ℕ) (b : Body) (at : slice_get (accepted_by core) place ≡ Some b) where
   pub held : IsHeld b
-  held = let found = chosen_at core.held core.accepted known.held place b (ap (λ l. slice_get l place) known.accepted ∙ at) in all_at IsHeld core.held known.stands.spelled found.0 b found.2
+  held = let found = chosen_at core.held core.accepted known.held place b (ap (λ l. slice_get l place) known.accepted ∙ at) in all_at IsHeld core.held known.sound.spelled found.0 b found.2
 
   abbrev sigs : List IndexedSig
   sigs = kept (told_of core) (accepted_by core) b

@@ -21,7 +21,7 @@ use Rattle.key_state.specs.KeyStates.{begun, first, is_bad_change, misfit, moved
 use Rattle.key_state.specs.States.{State, IsState}
 use Rattle.key_state.proofs.NoMisfit.{few_since, fits_list}
 use Rattle.key_state.proofs.WitnessLists.{are_changed, few_changed}
-use Rattle.validator_core.specs.ValidatorCore.View.{CoreView, Stands, accepted_by}
+use Rattle.validator_core.specs.ValidatorCore.View.{CoreView, IsSoundCore, accepted_by}
 use Rattle.witness_core.specs.WitnessStore.Room.{IsKnown}
 use Rattle.witness_core.proofs.WitnessStoreLemmas.Waits.{chosen_at}
 
@@ -106,7 +106,7 @@ pub kept_under : (log : List Body) → All (λ b. IsKept b.event) log → (b : B
 kept_under log kept b = some_so (state_under log b) (state_is _ (before b log) (before_kept b log kept))
 
 -- KEPT: the accepted events of a core are ones that bodies spell
-pub kept_all : (core : CoreView) → Stands core → All (λ n. n < length core.held) core.accepted → chosen core.held core.accepted ≡ accepted_by core
+pub kept_all : (core : CoreView) → IsSoundCore core → All (λ n. n < length core.held) core.accepted → chosen core.held core.accepted ≡ accepted_by core
     → ((event : Event) (bytes : List ℕ) → SpellsEvent event bytes → IsKept event) → All (λ b. IsKept b.event) (accepted_by core)
 kept_all core stands low is spelled = all_from (λ c. IsKept c.event) (accepted_by core) (λ i c at.
     let found = chosen_at core.held core.accepted low i c (ap (λ l. slice_get l i) is ∙ at) in
@@ -114,4 +114,4 @@ kept_all core stands low is spelled = all_from (λ c. IsKept c.event) (accepted_
 
 -- STATES: the state under which an event of a core was accepted is one
 pub under_is : (core : CoreView) → IsKnown core → ((event : Event) (bytes : List ℕ) → SpellsEvent event bytes → IsKept event) → (b : Body) (s : State) → state_under (accepted_by core) b ≡ Some s → IsState s
-under_is core known spelled b s e = kept_under (accepted_by core) (kept_all core known.stands known.held known.accepted spelled) b s e
+under_is core known spelled b s e = kept_under (accepted_by core) (kept_all core known.sound known.held known.accepted spelled) b s e

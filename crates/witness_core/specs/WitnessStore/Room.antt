@@ -12,7 +12,7 @@ use Rattle.journal.specs.Journal.Readiness.{held_sig}
 use Rattle.keri_outside.specs.declared.limits.Limits.{Limits}
 use Rattle.shelf_log.specs.ShelfLog.Format.{shelf_size}
 use Rattle.shelf_log.specs.declared.shelf_log.version.Version.TheVariants.{Two}
-use Rattle.validator_core.specs.ValidatorCore.View.{CoreView, Stands, accepted_by}
+use Rattle.validator_core.specs.ValidatorCore.View.{CoreView, IsSoundCore, accepted_by}
 use Rattle.witness_core.specs.WitnessStore.Histories.{History, bodies_in, log_in}
 use Rattle.witness_core.specs.declared.witness_store.room.Coming.{Coming}
 use Rattle.witness_core.specs.declared.witness_store.room.Room.{Room}
@@ -68,7 +68,7 @@ pub record HasRoom (limits : Limits) (h : History) (list : List (List ℕ)) (roo
 
 -- what is true of every core: its bodies are those that came, and its numbers name the accepted ones
 pub record IsKnown (core : CoreView) : Type 0 where
-  pub stands : Stands core
+  pub sound : IsSoundCore core
   pub held : All (λ n. n < length core.held) core.accepted
   pub accepted : chosen core.held core.accepted ≡ accepted_by core
 

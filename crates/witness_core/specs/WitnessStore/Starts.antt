@@ -6,7 +6,7 @@ use Rattle.journal.specs.declared.journal.resume_fault.ResumeFault.{ResumeFault}
 use Rattle.journal.specs.declared.journal.resume_fault.ResumeFault.TheVariants.{OutOfMemory}
 use Rattle.keri_outside.specs.declared.limits.Limits.{Limits}
 use Rattle.validator_core.specs.ValidatorCore.Base.{AreRefused, IsResumed}
-use Rattle.validator_core.specs.ValidatorCore.View.{CoreView, Stands, accepted_by}
+use Rattle.validator_core.specs.ValidatorCore.View.{CoreView, IsSoundCore, accepted_by}
 use Rattle.witness_core.specs.declared.witness_store.room.Room.{Room}
 
 -- the bodies at the front of payloads; none for one that isn't a body with good groups of signatures alone behind it
@@ -32,6 +32,6 @@ StartsAgain list = (fault : ResumeFault) → AreNoStart list fault → fault ≡
 
 -- what is true of every core, and the room of one in which nothing waits and no signatures came
 pub record IsFirstRoom (core : CoreView) (room : Room) : Type 0 where
-  pub stands : Stands core
+  pub sound : IsSoundCore core
   pub signatures : room.signatures.items ≡ replicate (length core.held) 0
   pub reserved : room.reserved ≡ 0

@@ -200,7 +200,7 @@ fn enter(
     ensures fault { IfErr result (λ fault. (fault ≡ NoRoom) ⊎ (fault ≡ NoMemory)) }
 {
     let reply = core.take_event(0, body, event, claims, steps)?;
-    core.stands();
+    core.sound();
     match reply {
         Reply::LimitReached => Err(WitnessFault::LimitReached),
         Reply::Taken => Ok(()),

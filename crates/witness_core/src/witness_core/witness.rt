@@ -46,7 +46,7 @@ pub struct Witness<D: Disk> {
 impl<D: Disk + Drop> Witness<D> {
     ghost use Rattle.std.specs.Prelude.{◌≡◌, ◌⊎◌, true, map, All, Err, IfErr, IfOk, MatchResult, OnOk};
     ghost use Rattle.shelf_log.specs.ShelfLog.OnDisk.{AllHold};
-    ghost use Rattle.validator_core.specs.ValidatorCore.View.{Follows, Stands};
+    ghost use Rattle.validator_core.specs.ValidatorCore.View.{Follows, IsSoundCore};
     ghost use Rattle.witness_core.specs.WitnessStore.Faults.{StoresStill};
     ghost use Rattle.witness_core.specs.WitnessReceipts.Fates.{IsFate};
     ghost use Rattle.witness_core.specs.WitnessStore.Payloads.{AreListed};
@@ -75,7 +75,7 @@ impl<D: Disk + Drop> Witness<D> {
     {
         match begin(alloc, shelf.list(), limits) {
             Ok(Begun { core, room }) => {
-                core.stands();
+                core.sound();
                 spelled_is_kept();
                 Ok(Witness {
                     alloc,
@@ -158,13 +158,13 @@ impl<D: Disk + Drop> Witness<D> {
         match self.take_message(message, verifier, signer) {
             Ok(outcome) => {
                 self.broken = false;
-                self.core.stands();
+                self.core.sound();
                 spelled_is_kept();
                 Ok(outcome)
             }
             Err(fault) => {
                 self.broken = breaks(fault);
-                self.core.stands();
+                self.core.sound();
                 spelled_is_kept();
                 Err(fault)
             }
@@ -291,7 +291,7 @@ impl<D: Disk + Drop> Witness<D> {
                     &mut self.steps,
                     verifier,
                 )?;
-                self.core.stands();
+                self.core.sound();
                 Ok(Taken::Event(number))
             }
         }
@@ -308,7 +308,7 @@ impl<D: Disk + Drop> Witness<D> {
     pub fn journal(&self) -> &Journal
         ensures bodies { result.now.bodies ≡ map (λ b. b.bytes) self.now.core.held }
         ensures entries { result.now.entries ≡ self.now.core.entries }
-        ensures stands { Stands self.now.core }
+        ensures sound { IsSoundCore self.now.core }
     {
         self.core.journal()
     }

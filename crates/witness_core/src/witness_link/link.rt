@@ -51,14 +51,14 @@ fn serve<W: Witnessing, K: Sink>(
         (shown_noting (W.seen service.old) (sink_shown K.written K.faults sink.old) notes.old)
         (shown_noting (W.seen service.new) (sink_shown K.written K.faults sink.new) notes.new) }
 {
-    service.stands();
+    service.sound();
     match notes.make_place() {
         Ok(()) => {}
         Err(AllocError) => return Err(Close::OutOfMemory),
     }
     match service.take(message) {
         Ok(outcome) => {
-            service.stands();
+            service.sound();
             notes.note(message.place, outcome.fate);
             match put_receipts(sink, outcome.receipts.as_slice()) {
                 Ok(()) => Ok(()),

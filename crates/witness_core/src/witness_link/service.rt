@@ -70,7 +70,7 @@ fn serve_all<'w, 'k, 'n, S: Source, W: Witnessing, K: Sink>(
         (link_shown W.seen K.written K.faults link.old) (link_shown W.seen K.written K.faults link.new) result }
     ensures same { LendsSame link.old link.new }
 {
-    link.service.stands();
+    link.service.sound();
     let (close, last) = feed_messages(alloc, source, limits, link);
     finish(link, close, last)
 }

@@ -60,7 +60,7 @@ pub trait Witnessing: ServiceView {
             (seen self.old).witness.core (seen self.new).witness.core };
 
     /// What is true of the witness where it isn't broken, stated for proofs. Nothing is done here.
-    fn stands(&self)
+    fn sound(&self)
         ensures { (seen self.now).witness.broken ≡ false → IsSound (seen self.now).witness };
 
     // Since this moment there is no other.
@@ -72,7 +72,7 @@ impl<D: Disk + Drop> Witness<D> {
     ghost use Rattle.witness_core.specs.WitnessLink.Links.{seen_as};
 
     /// What is true of it where it isn't broken, stated for proofs. Nothing is done here.
-    pub(crate) fn stands(&self)
+    pub(crate) fn sound(&self)
         ensures { self.now.broken ≡ false → IsSound (seen_as D.shown self.now.key self.now.limits
             (record { core = self.now.core; list = self.now.shelf.list; broken = self.now.broken; disk = self.now.shelf.disk })) }
     {
@@ -140,8 +140,8 @@ impl<D: Disk + Drop, V: Verifier, G: Signer> Witnessing for Service<D, V, G> {
         taken
     }
 
-    fn stands(&self) {
-        self.witness.stands();
+    fn sound(&self) {
+        self.witness.sound();
     }
 
     ghost only_now = { λ s. D.only_now s.witness.shelf.disk };

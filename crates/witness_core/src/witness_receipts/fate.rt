@@ -36,7 +36,7 @@ pub fn event_fate(core: &Core, key: &Key, number: u32) -> Fate
     requires event { (b : Body) → slice_get core.now.held number ≡ Some b → events.is_receipt b.event ≡ false }
     ensures { (b : Body) → slice_get core.now.held number ≡ Some b → fates.event_fate key.now core.now b ≡ Some result }
 {
-    core.stands();
+    core.sound();
     match core.place_of(number) {
         Some(place) => Fate::Stored {
             listed: core.is_witness_at(place, key),
@@ -53,7 +53,7 @@ fn fate_of_waiting(core: &Core, number: u32) -> Fate
     requires waits { (b : Body) → slice_get core.now.held number ≡ Some b → is_in (accepted_by core.now) b ≡ false }
     ensures { (b : Body) → slice_get core.now.held number ≡ Some b → waiting_fate core.now b ≡ Some result }
 {
-    core.stands();
+    core.sound();
     let Some(event) = core.event(number) else {
         unreachable!()
     };

@@ -93,7 +93,7 @@ fn receipt_body(alloc: Global, event: &Event) -> Result<Vec<u8>, AllocError>
         prefix: event.prefix(),
         sn: event.sn(),
     };
-    held(receipt);
+    in_range(receipt);
     match written(alloc, receipt) {
         Ok(text) => Ok(text),
         Err(ReadBody::OutOfMemory) => Err(AllocError),
@@ -114,11 +114,11 @@ fn written(alloc: Global, receipt: ReceiptBody) -> Result<Vec<u8>, ReadBody>
 }
 
 // What the types of a receipt's parts hold by themselves, which a proof learns where they are read.
-fn held(receipt: ReceiptBody)
+fn in_range(receipt: ReceiptBody)
     ensures { IsTypedReceipt receipt }
 {
-    receipt.said.held();
-    receipt.prefix.held();
+    receipt.said.in_range();
+    receipt.prefix.in_range();
     let _sn = receipt.sn;
 }
 

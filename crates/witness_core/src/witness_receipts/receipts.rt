@@ -96,7 +96,7 @@ fn own_listed(core: &Core, key: &Key, front: usize, number: u32) -> Option<u32>
         ≡ listed key.now (accepted_by core.now) (again (take front (accepted_by core.now)) b.bytes) }
     ensures held { All (λ n. n < length core.now.held) (cons_option result []) }
 {
-    core.stands();
+    core.sound();
     match core.place_of(number) {
         Some(place) => own_at(core, key, front, number, place),
         None => None,
@@ -111,7 +111,7 @@ fn own_at(core: &Core, key: &Key, front: usize, number: u32, place: usize) -> Op
         ≡ listed key.now (accepted_by core.now) (again (take front (accepted_by core.now)) b.bytes) }
     ensures held { All (λ n. n < length core.now.held) (cons_option result []) }
 {
-    core.stands();
+    core.sound();
     if place >= front {
         return None;
     }

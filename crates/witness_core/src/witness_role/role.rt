@@ -105,7 +105,7 @@ fn start<O: Outside>(
     };
     match Witness::start(alloc, words.prefix, shelf, limits) {
         Ok(witness) => {
-            witness.stands();
+            witness.sound();
             serve(
                 alloc,
                 words.helper,

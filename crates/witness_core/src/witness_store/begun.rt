@@ -41,7 +41,7 @@ pub fn begin(alloc: Global, payloads: &[Text], limits: Limits) -> Result<Begun, 
 fn first_room(alloc: Global, core: &Core) -> Result<Room, AllocError>
     ensures { IfOk result (IsFirstRoom core.now) }
 {
-    core.stands();
+    core.sound();
     let signatures = vec![in alloc; 0; core.len()]?;
     Ok(Room {
         signatures,

@@ -13,5 +13,5 @@ returns-clause-those c =
     let found = c.in_ok-found.found.items in
     let held = subst (λ m. All (λ n. n < m) found) (length-map core.held (λ b. b.event))
     (subst (λ es. All (λ n. n < length es) found) c.events.ensures c.in_ok-found.ensures.held) in
-    marked core c.journal-journal.ensures.stands found c.sort_unstable.new.self.items held c.sort_unstable.ensures.permutation (live (accepted_by core) prefix)
+    marked core c.journal-journal.ensures.sound found c.sort_unstable.new.self.items held c.sort_unstable.ensures.permutation (live (accepted_by core) prefix)
     (c.in_ok-found.ensures.live core.held (sym c.events.ensures) ∙ ap (λ bs. live bs prefix) c.requires.own ∙ live-own (accepted_by core) prefix)

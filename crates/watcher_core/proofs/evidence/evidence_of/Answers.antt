@@ -37,5 +37,5 @@ returns-clause-reads c =
     record {
       sets = sets;
       sets_are = are;
-      items_are = subst (λ bytes. Items 65535 bytes (placed_from 0 (items_of_sets core sets)) unfinished) (sym text) (sets_read core sets are c.stands.ensures.stands puts.raw);
+      items_are = subst (λ bytes. Items 65535 bytes (placed_from 0 (items_of_sets core sets)) unfinished) (sym text) (sets_read core sets are c.sound.ensures.sound puts.raw);
     }

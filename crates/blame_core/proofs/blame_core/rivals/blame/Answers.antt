@@ -28,6 +28,6 @@ returns c =
     let (os, judged, is) = ended J all c.loop-one.blames (subst (λ rest. AreWalked J all rest c.loop-one.blames) c.in-None.ensures.steps.0 c.loop-one.invariant) in
     let those = subst (λ vs. AllJudged J vs os) (c.into_iter-one-iterator.ensures.into_iter_gives ∙ c.values-one-items.ensures.rest) judged in
     subst (AreBlames first second) (sym is)
-    (blames_are first second (whole_core first c.requires.first_full c.requires.first_whole c.stands.ensures.stands)
-    (whole_core second c.requires.second_full c.requires.second_whole c.stands-2.ensures.stands) c.in_ok-ones.ones.entries c.in_ok-others.others.entries
+    (blames_are first second (whole_core first c.requires.first_full c.requires.first_whole c.sound.ensures.sound)
+    (whole_core second c.requires.second_full c.requires.second_whole c.sound-2.ensures.sound) c.in_ok-ones.ones.entries c.in_ok-others.others.entries
     c.in_ok-ones.ensures c.in_ok-others.ensures c.values-one-items.ensures.ordered os those)

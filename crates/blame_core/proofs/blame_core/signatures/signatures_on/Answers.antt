@@ -31,7 +31,7 @@ returns c = λ b at.
     let places = numbers_at name_cmp c.args.named.now in
     let those : c.numbers-entries.result.now ≡ places (name_of event) = c.numbers-entries.ensures.those ∙ ap places c.name_of.ensures in
     let rising = subst IsStrictlyIncreasing those c.numbers-entries.ensures.rising in
-    let apart = held_differ core c.journal-journal.ensures.stands in
+    let apart = held_differ core c.journal-journal.ensures.sound in
     let came = c.in_ok-add_all_came.ensures
     ∙ (λ i. c.new-came.ensures.items i ++ flat_map (λ i. came_at held d (slice_get core.entries i)) (those i))
     ∙ came_named held apart core.entries places c.requires c.args.number d there rising in

@@ -7,5 +7,5 @@ use Rattle.event_body.proofs.event_writing.sealed_event.digested_text.Goals as g
 
 pub body_text-requires : goal.body_text-requires
 body_text-requires c =
-    let all = all_json (digested_values c.args.event.now) (digested_are c.args.event.now c.requires.held c.requires.thresholds c.requires.writable) in
+    let all = all_json (digested_values c.args.event.now) (digested_are c.args.event.now c.requires.typed c.requires.thresholds c.requires.writable) in
     subst (AllByRecursion IsJson) (sym (c.as_slice.ensures ∙ c.in_ok-values.ensures)) all

@@ -31,5 +31,5 @@ returns-in-Err-clause-said c = λ is. let same : c.in-Err.fault ≡ Fault Said =
 pub returns-in-Ok-clause-said : goal.returns-in-Ok-clause-said
 returns-in-Ok-clause-said c =
     let said = c.digest_of.ensures.digest ∙ ap (digest_of c.args.code) (c.deref.ensures.value ∙ c.in-Ok.ensures.text.0) in
-    not_said c.args.code c.args.event.now c.held.ensures.held c.held.ensures.thresholds c.requires (subst IsDigest said c.digest_of.ensures.valid) c.sealed_with.result
+    not_said c.args.code c.args.event.now c.in_range.ensures.typed c.in_range.ensures.thresholds c.requires (subst IsDigest said c.digest_of.ensures.valid) c.sealed_with.result
     (subst (λ digest. IfErr c.sealed_with.result (λ fault. IsFaultOf (with_digest digest c.args.event.now) fault)) said c.sealed_with.ensures.fault)

@@ -36,7 +36,7 @@ returns c =
     let core = c.args.core.now in let log = accepted_by core in let family = c.in_ok-family.family.keys in
     let all : take c.loop-place.place log ≡ log = all_before core.held c.accepted-place-end.result.now c.accepted-place-end.ensures.held log c.accepted-place-end.ensures.accepted c.loop-place.place c.loop-place-test.false in
     record {
-      stands = c.stands.ensures.stands;
+      sound = c.sound.ensures.sound;
       family = family;
       is_family = c.in_ok-family.ensures;
       text_is = subst (λ text. IsExportText (messages_at core family log) text) (sym c.into_bytes.ensures) (subst (λ xs. IsExportText (messages_at core family xs) c.loop-place.text.bytes.items) all c.loop-place.invariant.text);

@@ -57,7 +57,7 @@ put_messages-requires c =
     let prefix : c.prefix-prefix.result ≡ prefix_of b.event = c.prefix-prefix.ensures ∙ ap prefix_of event in
     let of = ap (λ p. list_any (λ q. same_prefix q p) c.args.family.now.keys) (sym prefix) ∙ sym c.has_prefix.ensures ∙ c.if-not-has_prefix.false in
     let own_is = c.in_ok-own.ensures ∙ (λ i. own_signers (signers_in ((c.get.ensures.value ∙ ap (get prefix_cmp c.args.signers.now) prefix) i)) (event i)) in
-    let kept : IsKept b.event = c.spelled_is_kept.ensures b.event b.bytes (all_at IsHeld core.held c.requires.stands.spelled c.in-Some.number b held).spelled in
+    let kept : IsKept b.event = c.spelled_is_kept.ensures b.event b.bytes (all_at IsHeld core.held c.requires.sound.spelled c.in-Some.number b held).spelled in
     subst (All IsFixed) (sym (c.as_slice.ensures.value ∙ c.in_ok-claims.ensures b held (sym event)))
     (sent_fixed (told_of core) c.in_ok-own.own b (own_witnesses core c.args.family.now.keys c.args.place b at.1 (core_grown core c.requires.full c.requires.no_base) c.args.signers.now c.requires.signers of c.in_ok-own.own own_is kept))
 
@@ -75,7 +75,7 @@ returns c = λ b at.
     let prefix : c.prefix-prefix.result ≡ prefix_of b.event = c.prefix-prefix.ensures ∙ ap prefix_of event in
     let of = ap (λ p. list_any (λ q. same_prefix q p) c.args.family.now.keys) (sym prefix) ∙ sym c.has_prefix.ensures ∙ c.if-not-has_prefix.false in
     let own_is = c.in_ok-own.ensures ∙ (λ i. own_signers (signers_in ((c.get.ensures.value ∙ ap (get prefix_cmp c.args.signers.now) prefix) i)) (event i)) in
-    let kept : IsKept b.event = c.spelled_is_kept.ensures b.event b.bytes (all_at IsHeld core.held c.requires.stands.spelled c.in-Some.number b held).spelled in
+    let kept : IsKept b.event = c.spelled_is_kept.ensures b.event b.bytes (all_at IsHeld core.held c.requires.sound.spelled c.in-Some.number b held).spelled in
     put_there core c.args.family.now.keys c.args.place b at (core_grown core c.requires.full c.requires.no_base) c.args.signers.now c.requires.signers of c.in_ok-own.own own_is kept
     c.insert.new.self (subst (λ p. (q : Prefix) → get prefix_cmp c.insert.new.self q ≡ cond (is_at (prefix_cmp p) q) (Some c.in_ok-own.own) (get prefix_cmp c.args.signers.now q)) prefix c.in_ok-insert.ensures.updates.0)
     c.args.text.now.bytes.items c.put_messages.new.text.bytes.items c.in-Some-body.bytes.now c.as_slice.result.now bytes

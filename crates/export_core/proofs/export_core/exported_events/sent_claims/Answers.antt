@@ -24,5 +24,5 @@ returns c =
     let all : c.as_slice.result.now ≡ flat_map (λ i. came_to (map (λ b. b.event) core.held) n (slice_get core.entries i)) places
     = c.as_slice.ensures.value ∙ c.in_ok-all.ensures ∙ (λ k. flat_map (λ i. came_to (c.events.ensures k) n (slice_get ((c.as_slice-entries.ensures ∙ c.journal.ensures.entries) k) i)) places) in
     is ∙ ap ordered (c.as_slice-2.ensures.value ∙ c.in_ok-good.ensures ∙ ap (λ xs. distinct same_claim (filter (is_good_by c.args.came.now.good own n) xs)) all)
-    ∙ sent_there core c.requires.stands c.args.came.now c.requires.came own n b at places
+    ∙ sent_there core c.requires.sound c.args.came.now c.requires.came own n b at places
     (c.numbers-places.ensures.those ∙ ap (numbers_at name_cmp c.args.came.now.entries) (c.name_of.ensures ∙ ap name_of (sym event))) c.numbers-places.ensures.rising)

@@ -40,9 +40,9 @@ returns-clause-blamed g c =
     let other_told : AllTold Full before.limits (other_given ∷ []) (other_reader ∷ []) other.rest other.core = rw c.limits-limits.ensures at
     (c.read-other.ensures Full c.limits-limits.result c.in_ok-other_seat.ensures) in
     let gave = c.into_journal.ensures in
-    let of : IsJournalOf one.core c.into_journal.result = record { bodies = gave.bodies; entries = gave.entries; stands = gave.stands } in
+    let of : IsJournalOf one.core c.into_journal.result = record { bodies = gave.bodies; entries = gave.entries; sound = gave.sound } in
     let gave_other = c.into_journal-2.ensures in
-    let of_other : IsJournalOf other.core c.into_journal-2.result = record { bodies = gave_other.bodies; entries = gave_other.entries; stands = gave_other.stands } in
+    let of_other : IsJournalOf other.core c.into_journal-2.result = record { bodies = gave_other.bodies; entries = gave_other.entries; sound = gave_other.sound } in
     let provided = c.provide_both-first.ensures.provided in
     let journal = is_told_by Full before.limits (given ∷ []) (reader ∷ []) one.rest one.core told in
     let other_journal = is_told_by Full before.limits (other_given ∷ []) (other_reader ∷ []) other.rest other.core other_told in

@@ -77,7 +77,7 @@ loop-room-preserved g c =
     c.in-Ok.ensures.sink_failed c.write_items.ensures.goes_on in
     record {
       has_read = more;
-      idle = rw c.in-Ok-None.field-0-is at c.in-Ok-None.ensures.stands;
+      idle = rw c.in-Ok-None.field-0-is at c.in-Ok-None.ensures.stops;
       same_domain =
           let fed = c.feed_piece.new.self.domain in
           stayed domain fed new.domain
@@ -103,7 +103,7 @@ returns-in-Ok-Some g c =
     c.in-Ok.ensures.sink_failed c.write_items.ensures.goes_on in
     let few = few_read most (c.loop-room.room - c.in-Ok.count) domain first now new.reader new.sink_failed more in
     refuses most domain first now more.fed new.reader new.sink_failed more.has_put more.limit few c.in-Ok-Some.bad
-    (rw c.in-Ok-Some.field-0-is at c.in-Ok-Some.ensures.stands) more.gave more.same_faults
+    (rw c.in-Ok-Some.field-0-is at c.in-Ok-Some.ensures.stops) more.gave more.same_faults
 
 pub returns-in-Err-write_items : goal.returns-in-Err-write_items
 returns-in-Err-write_items g c =

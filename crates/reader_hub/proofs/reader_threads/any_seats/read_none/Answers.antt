@@ -12,5 +12,5 @@ returns-clause-told g c = record {
   mode_is = refl;
   limits_are = refl;
   no_base = c.requires.no_base;
-  stands = search rules;
+  sound = search rules;
 }

@@ -18,5 +18,5 @@ returns-in-Some-clause-all c = if_ok_then c.copied.result c.copied.ensures (λ c
     let found = sym (ap (option_map (λ e. e.now)) c.in-Some.is) ∙ c.event.ensures in
     let said = c.said.ensures ∙ ap said_of (event_is v.held c.args.number c.in-Some.event.now d found at_d) in
     ap (list_any (λ m. m == n)) same
-    ∙ all_woken v c.requires.stands c.waiting.result.now c.waiting.ensures d c.woken_by.result.now
+    ∙ all_woken v c.requires.sound c.waiting.result.now c.waiting.ensures d c.woken_by.result.now
     (λ m. let those = c.woken_by.ensures.those m in subst (λ s. Contains c.woken_by.result.now m ↔ Waits m (λ w. w.prior ≡ Some s) c.waiting.result.now) said those) n b at right none)

@@ -15,7 +15,7 @@ accept-requires-clause-fits c = λ b at. ready_fits c.args.mode (told_of c.args.
 
 pub add_due-requires : goal.add_due-requires
 add_due-requires c =
-    let v = c.args.tables.now in let b = some_at v.held c.args.number c.requires.held in record { stands = (c.in_ok-accept.ensures.ok b.0 b.1).stands }
+    let v = c.args.tables.now in let b = some_at v.held c.args.number c.requires.held in record { sound = (c.in_ok-accept.ensures.ok b.0 b.1).sound }
 
 pub returns-clause-ok : goal.returns-clause-ok
 returns-clause-ok c =
@@ -25,7 +25,7 @@ returns-clause-ok c =
     record {
       keeps = record { held = took.held; entries = took.entries; pending = took.pending; released = took.released };
       log = took.log;
-      stands = took.stands;
+      sound = took.sound;
       widens = record {
         keeps = c.add_due.ensures.kept;
         woken = λ n d at_d wakes. (
@@ -38,7 +38,7 @@ returns-clause-ok c =
       };
       few = few (wakes c.args.mode (log_of v) b) v.held c.args.due.now.keys c.add_due.new.due.keys (c.add_due.ensures.rising c.requires.rising) (λ n has. (elim (new n has) [
         | inl there ↦ inl there
-        | inr one ↦ inr (woken_next c.args.mode v w c.args.number b at took.held took.log took.stands n
+        | inr one ↦ inr (woken_next c.args.mode v w c.args.number b at took.held took.log took.sound n
             (c.in_ok-woken.ensures.waits n (subst (λ ns. Contains ns n) c.as_slice.ensures.value one.0)) one.1)
       ]));
     })

@@ -12,7 +12,7 @@ use Rattle.validator_core.proofs.table_changes.ready_events.accept_ready.Goals a
 pub loop-number-init : goal.loop-number-init
 loop-number-init c =
     let v = c.args.tables.now in
-    (0, sym (none_counted c.args.steps.now), leads_itself c.args.mode (told_of v) v.held c.args.due.now.keys (log_of v), record { held = refl; entries = refl; pending = refl; released = refl }, c.requires.stands, extends_itself v c.requires.stands)
+    (0, sym (none_counted c.args.steps.now), leads_itself c.args.mode (told_of v) v.held c.args.due.now.keys (log_of v), record { held = refl; entries = refl; pending = refl; released = refl }, c.requires.sound, extends_itself v c.requires.sound)
 
 pub accept_next-requires-clause-held : goal.accept_next-requires-clause-held
 accept_next-requires-clause-held c = let next = c.in-Some.ensures.some in slice_get_within c.loop-number.tables.held c.in-Some.number next.body next.at

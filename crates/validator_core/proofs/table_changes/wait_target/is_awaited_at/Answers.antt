@@ -9,7 +9,7 @@ use Rattle.validator_core.proofs.table_changes.wait_target.is_awaited_at.Goals a
 pub is_awaited-requires-clause-kept : goal.is_awaited-requires-clause-kept
 is_awaited-requires-clause-kept c =
     let x = body_there c.args.tables.now.held c.args.number c.in-Some.event.now (sym (ap (option_map (λ e. e.now)) c.in-Some.is) ∙ c.event.ensures) in
-    subst IsKept (sym x.2) (c.spelled_is_kept.ensures x.0.event x.0.bytes (c.requires.stands.spelled c.args.number x.0 x.1).spelled)
+    subst IsKept (sym x.2) (c.spelled_is_kept.ensures x.0.event x.0.bytes (c.requires.sound.spelled c.args.number x.0 x.1).spelled)
 
 pub returns : goal.returns
 returns c =

@@ -19,7 +19,7 @@ returns-in-Full c = record {
       let again = waits_there c.waiting-in-Full.result.now v.held v.released v.log.numbers n b c.waiting-in-Full.ensures at was.0 in
       elim was.1 [
         | inl prior ↦ kept n (subst (λ ns. Contains ns n) (sym c.in_ok-numbers.ensures) ((c.woken_by.ensures.those n).1 (waiter_of n b.event, there, prior ∙ ap Some (sym (c.said.ensures ∙ ap said_of same)))))
-        | inr sealing ↦ sealed n (record { prefix = prefix_of b.event; sn = sn_of b.event; said = said_of b.event }) (own_seal b.event b.bytes (c.requires.stands.spelled n b at).spelled)
+        | inr sealing ↦ sealed n (record { prefix = prefix_of b.event; sn = sn_of b.event; said = said_of b.event }) (own_seal b.event b.bytes (c.requires.sound.spelled n b at).spelled)
             (sym (c.sealed_by_parts.ensures c.in-Some.event.now b.event) ∙ ap (λ e. journal_seals e b.event) same ∙ sealing.1) (waiter_of n b.event, again, refl)
       ]);
 }

@@ -1,7 +1,7 @@
 use Rattle.std.proofs.Common.{◌≡◌, ◌<◌, ◌∷◌, ◌++◌, [], Some, length, length-append, sym, ◌∙◌, ap, subst, arith}
 use Rattle.std.specs.Prelude.{IsTrue, slice_get}
 use Rattle.std.proofs.lemmas.Result.{on_ok_weaker}
-use Rattle.validator_core.specs.Acceptance.Standing.{Accepts, IsStanding}
+use Rattle.validator_core.specs.Acceptance.Standing.{Accepts, AreSoundTables}
 use Rattle.validator_core.specs.Tables.View.{View, log_of}
 use Rattle.journal.specs.declared.journal.body.Body.{Body}
 use Rattle.journal.specs.Journal.Grown.{fits}
@@ -9,9 +9,9 @@ use Rattle.journal.proofs.JournalLemmas.Places.{slice_get_last}
 use Rattle.validator_core.proofs.ValidatorCoreLemmas.Bases.{accepts_text, fits_pushed, stands_pushed}
 use Rattle.validator_core.proofs.validator_core.base.add_event.Goals as goal
 
-pub accept-requires-clause-stands : goal.accept-requires-clause-stands
-accept-requires-clause-stands c =
-    subst IsStanding (sym c.in_ok-number.ensures.ok) (stands_pushed c.args.tables.now c.requires.accepted c.args.body c.requires.held c.requires.fits)
+pub accept-requires-clause-sound : goal.accept-requires-clause-sound
+accept-requires-clause-sound c =
+    subst AreSoundTables (sym c.in_ok-number.ensures.ok) (stands_pushed c.args.tables.now c.requires.accepted c.args.body c.requires.held c.requires.fits)
 
 pub accept-requires-clause-held : goal.accept-requires-clause-held
 accept-requires-clause-held c =

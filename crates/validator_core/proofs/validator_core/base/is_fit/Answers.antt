@@ -7,7 +7,7 @@ use Rattle.validator_core.proofs.ValidatorCoreLemmas.Bases.{fits_new, held_unfit
 use Rattle.validator_core.proofs.validator_core.base.is_fit.Goals as goal
 
 pub number_of-requires-clause-all_spelled : goal.number_of-requires-clause-all_spelled
-number_of-requires-clause-all_spelled c = λ n b at. (c.requires.accepted.stands.spelled n b at).spelled
+number_of-requires-clause-all_spelled c = λ n b at. (c.requires.accepted.sound.spelled n b at).spelled
 
 pub returns-then-is_receipt : goal.returns-then-is_receipt
 returns-then-is_receipt c = sym (receipt_unfit c.args.tables.now.held (body_of c.args.text.now c.args.event.now) (sym c.is_receipt.ensures ∙ c.if-is_receipt.true))

@@ -9,17 +9,17 @@ use Rattle.validator_core.proofs.validator_core.whole_entries.add_verdict.Goals 
 
 pub keep_or_cut-requires : goal.keep_or_cut-requires
 keep_or_cut-requires c = subst (λ m. IsCut m c.accept_from-accepted.new.tables) (sym c.mark-mark.ensures.mark)
-    (cut_heard (signature_asked c.args.question.now) c.args.yes c.args.reader c.args.tables.now c.enter_verdict.new.tables c.accept_from-accepted.new.tables c.requires.stands c.requires.idle c.requires.left c.requires.raised
+    (cut_heard (signature_asked c.args.question.now) c.args.yes c.args.reader c.args.tables.now c.enter_verdict.new.tables c.accept_from-accepted.new.tables c.requires.sound c.requires.idle c.requires.left c.requires.raised
     c.in_ok-enter_verdict.ensures.ok c.accept_from-accepted.ensures.extends)
 
 pub returns-in-Err-clause-err : goal.returns-in-Err-clause-err
 returns-in-Err-clause-err c =
     let s = signature_asked c.args.question.now in
     let is = c.in-Err.ensures.cut ∙ ap (λ m. rewound m c.accept_from-accepted.new.tables) c.mark-mark.ensures.mark
-    ∙ back_heard s c.args.yes c.args.reader c.args.tables.now c.enter_verdict.new.tables c.accept_from-accepted.new.tables c.requires.stands c.requires.idle c.requires.left c.requires.raised
+    ∙ back_heard s c.args.yes c.args.reader c.args.tables.now c.enter_verdict.new.tables c.accept_from-accepted.new.tables c.requires.sound c.requires.idle c.requires.left c.requires.raised
     c.in_ok-enter_verdict.ensures.ok c.accept_from-accepted.ensures.extends in
     c.unhear.ensures s (ap (λ (v : View). v.claims.pending) is) ∙ ap (λ (v : View). with_claims (record { rows = unheard s v.claims.rows; pending = None }) v) is
-    ∙ undone s c.args.yes c.args.reader c.args.tables.now c.enter_verdict.new.tables c.accept_from-accepted.new.tables c.requires.stands c.requires.idle c.requires.left c.requires.raised
+    ∙ undone s c.args.yes c.args.reader c.args.tables.now c.enter_verdict.new.tables c.accept_from-accepted.new.tables c.requires.sound c.requires.idle c.requires.left c.requires.raised
     c.in_ok-enter_verdict.ensures.ok c.accept_from-accepted.ensures.extends
 
 pub returns-clause-ok : goal.returns-clause-ok

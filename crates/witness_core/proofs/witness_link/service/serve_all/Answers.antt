@@ -5,7 +5,7 @@ use Rattle.witness_core.proofs.witness_link.service.serve_all.Goals as goal
 
 pub feed_messages-close-requires : goal.feed_messages-close-requires
 feed_messages-close-requires g c =
-    let sound = c.stands.ensures c.requires in
+    let sound = c.sound.ensures c.requires in
     record {
       none_taken = taken_none g.W.Witnessing.seen g.K.Sink.written g.K.Sink.faults c.args.link.now
           (record { whole = c.requires; listed = sound.listed; read = sound.read; starts = sound.starts }) sound.stand sound.lawful (g.met.W.Witnessing.only_now c.args.link.now.service.now);

@@ -9,5 +9,5 @@ use Rattle.witness_core.proofs.witness_receipts.receipt.receipt_body.Goals as go
 pub unreachable-requires : goal.unreachable-requires
 unreachable-requires c =
     let r : ReceiptBody = record { said = c.said.result; prefix = c.prefix.result; sn = c.sn.result } in
-    let is : c.in-Err-Fault.field-0 ≡ OutOfMemory = c.in-Err-Fault.ensures.whole (text_of (Rct r)) (receipt_spelled r c.held.ensures) (omega (arith, receipt_few r c.held.ensures)) in
+    let is : c.in-Err-Fault.field-0 ≡ OutOfMemory = c.in-Err-Fault.ensures.whole (text_of (Rct r)) (receipt_spelled r c.in_range.ensures) (omega (arith, receipt_few r c.in_range.ensures)) in
     cc (is, c.in-Err-Fault.field-0-is)

@@ -19,7 +19,7 @@ returns-in-Ok-start-clause-starts g c =
       core = c.in-Ok-start.witness.core;
       started = began.resumed.0;
       listed = rw began.same_shelf at began.resumed.1;
-      lawful = rw began.same_shelf at (c.stands.ensures began.fresh.0).lawful;
+      lawful = rw began.same_shelf at (c.sound.ensures began.fresh.0).lawful;
       none_open = started_open _ _ _ began.resumed.0;
       serves = rw (began.fresh.0, began.fresh.1, began.fresh.2, began.same_shelf) at c.serve.ensures.serves;
     })

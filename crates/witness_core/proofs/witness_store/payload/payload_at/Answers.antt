@@ -30,7 +30,7 @@ bounds-as_slice-number c =
     (c.as_slice.ensures ∙ c.journal.ensures.bodies)
 
 known : (c : After-payload) → IsKnown c.args.core.now
-known c = known_by c.args.core.now c.accepted.result.now c.accepted.ensures.held c.accepted.ensures.accepted c.accepted.ensures.numbers c.journal.ensures.stands
+known c = known_by c.args.core.now c.accepted.result.now c.accepted.ensures.held c.accepted.ensures.accepted c.accepted.ensures.numbers c.journal.ensures.sound
 
 -- the payload is that of the body that is read and the signatures that are kept
 written : (c : After-payload) (b : Body) → slice_get (accepted_by c.args.core.now) c.args.place ≡ Some b

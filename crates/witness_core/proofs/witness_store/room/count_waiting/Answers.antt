@@ -8,7 +8,7 @@ use Rattle.witness_core.proofs.witness_store.room.count_waiting.Goals as goal
 pub overflow_sub-result : goal.overflow_sub-result
 overflow_sub-result c =
     let core = c.args.core.now in
-    let known = known_by core c.accepted.result.now c.accepted.ensures.held c.accepted.ensures.accepted c.accepted.ensures.numbers c.journal.ensures.stands in
+    let known = known_by core c.accepted.result.now c.accepted.ensures.held c.accepted.ensures.accepted c.accepted.ensures.numbers c.journal.ensures.sound in
     omega (
       arith,
       waiting_counted core known c.requires.grown c.requires.events,
@@ -21,7 +21,7 @@ overflow_sub-result c =
 pub returns-clause-count : goal.returns-clause-count
 returns-clause-count c =
     let core = c.args.core.now in
-    let known = known_by core c.accepted.result.now c.accepted.ensures.held c.accepted.ensures.accepted c.accepted.ensures.numbers c.journal.ensures.stands in
+    let known = known_by core c.accepted.result.now c.accepted.ensures.held c.accepted.ensures.accepted c.accepted.ensures.numbers c.journal.ensures.sound in
     omega (
       arith,
       waiting_counted core known c.requires.grown c.requires.events,

@@ -50,4 +50,4 @@ returns-clause-told g c =
     let long = length-map readers.items seen in
     let alone : length (map seen readers.items) ≡ 1 → IsInStep (mode_of self) (told_of old) = λ one. before.alone (let all = c.args.providers.ok.0 in omega (arith, one, long, count, all)) in
     subst (λ l. AllTold (mode_of self) self.limits (map given providers) (map seen l) rest core) (sym (written_back now readers.items readers.len still readers.ok.0))
-    (all_told (mode_of self) self.limits (map given providers) (map seen readers.items) (map seen now) old core rest before.read before.only alone asks before.mode before.limits before.no_base c.stands.ensures.stands)
+    (all_told (mode_of self) self.limits (map given providers) (map seen readers.items) (map seen now) old core rest before.read before.only alone asks before.mode before.limits before.no_base c.sound.ensures.sound)

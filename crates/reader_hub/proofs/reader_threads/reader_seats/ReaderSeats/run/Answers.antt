@@ -101,12 +101,12 @@ returns g c =
       mode = ap (λ h. h.mode) same;
       limits = ap (λ h. h.limits) same ∙ ready.limits_are;
       no_base = no_base;
-      stands = c.close.ensures.stands;
+      sound = c.close.ensures.sound;
       read = subst (λ l. AllRead self.limits (told_of core) (map (given_by left faults says inquiries failed) c.args.providers.items)
           (map (reader_seen left faults says inquiries failed) l) NoneFailed) (sym ended)
           (subst (λ l. AllRead self.limits (told_of core) (map (given_by left faults says inquiries failed) l)
           (map (reader_seen left faults says inquiries failed) all.ends.readers.items) NoneFailed) (sym given)
-          (what_was_read left faults says inquiries failed self.limits self.hub head own jobs all ran seats.0 seats.1 core closed ready.limits_are ready.turns no_base c.close.ensures.stands));
+          (what_was_read left faults says inquiries failed self.limits self.hub head own jobs all ran seats.0 seats.1 core closed ready.limits_are ready.turns no_base c.close.ensures.sound));
       only = subst (λ l. EachAsksOnly head.mode (told_of core) (map (given_by left faults says inquiries failed) c.args.providers.items)
           (map (reader_seen left faults says inquiries failed) l)) (sym ended)
           (subst (λ l. EachAsksOnly head.mode (told_of core) (map (given_by left faults says inquiries failed) l) (map (reader_seen left faults says inquiries failed) all.ends.readers.items)) (sym given)

@@ -16,7 +16,7 @@ use Rattle.validator_core.proofs.validator_core.validator.Core.conflicts.Goals a
 
 pub conflict_sets-requires-clause-differ : goal.conflict_sets-requires-clause-differ
 conflict_sets-requires-clause-differ c =
-    subst (AllPairs (λ x y. bytes_eq x y ≡ false)) (sym (c.as_slice.ensures ∙ c.journal.ensures.bodies)) (pairs-from-differ c.self.inside.tables.held c.self.invariant.stands.differ)
+    subst (AllPairs (λ x y. bytes_eq x y ≡ false)) (sym (c.as_slice.ensures ∙ c.journal.ensures.bodies)) (pairs-from-differ c.self.inside.tables.held c.self.invariant.sound.differ)
 
 pub placed-requires-clause-some : goal.placed-requires-clause-some
 placed-requires-clause-some c = λ k d h.
@@ -50,7 +50,7 @@ returns c =
     subst (λ core. IfOk c.placed.result (λ found. (x : List (List Body)) × NameConflicts core.held found.items x × IsConflictList core.mode (base_of core) (told_of core) x)) c.self.view_is
     (if_ok_both c.placed.result c.placed.ensures.bodies c.placed.ensures.places (λ found same placed. (
       map (chosen held) numbers,
-      names held c.events-2.result.now (sym c.events-2.ensures) c.self.invariant.stands.spelled (chosen held c.as_slice-2.result.now) found.items numbers
+      names held c.events-2.result.now (sym c.events-2.ensures) c.self.invariant.sound.spelled (chosen held c.as_slice-2.result.now) found.items numbers
           (same ∙ ap (map (λ (set : Vec ℕ Global). set.items)) c.as_slice-3.ensures.value) placed below are,
       listed,
     )))

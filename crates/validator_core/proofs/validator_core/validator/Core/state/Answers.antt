@@ -11,6 +11,6 @@ pub returns-clause-confluent : goal.returns-clause-confluent
 returns-clause-confluent c =
     let i = c.self.inside in
     let prefix = c.args.prefix.now in
-    let current = c.current.ensures ∙ ap (λ log. last_of prefix log.states) c.log.ensures ∙ c.self.invariant.stands.log.current prefix in
+    let current = c.current.ensures ∙ ap (λ log. last_of prefix log.states) c.log.ensures ∙ c.self.invariant.sound.log.current prefix in
     subst (λ core. IsSoInAlike core (λ log. state log prefix) (option_map (λ s. s.now) c.current.result)) c.self.view_is
     (state_in_alike (core_of i) prefix _ (current ∙ ap (λ log. state log prefix) c.self.invariant.log_is))

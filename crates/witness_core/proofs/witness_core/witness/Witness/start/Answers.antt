@@ -28,6 +28,6 @@ returns-in-Ok-clause-resumed g c =
     let started = subst (λ l. IsStarted c.args.limits l begun.core) c.list.ensures c.in-Ok.ensures.started in (
       started,
       are_listed begun.core s.list s.limits s.broken (g.D.Disk.shown s.disk) begun.room
-          (kept_all begun.core c.stands.ensures.stands c.stands.ensures.held c.stands.ensures.accepted c.spelled_is_kept.ensures)
+          (kept_all begun.core c.sound.ensures.sound c.sound.ensures.held c.sound.ensures.accepted c.spelled_is_kept.ensures)
           (started_stored begun.core s.list c.args.limits s.limits s.broken (g.D.Disk.shown s.disk) begun.room started c.in-Ok.ensures.room s.counted c.requires.whole (durable_holds (g.D.Disk.shown s.disk) s.list (s.durable c.requires.whole))),
     )

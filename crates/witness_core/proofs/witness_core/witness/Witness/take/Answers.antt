@@ -9,13 +9,13 @@ pub returns-in-Ok-clause-stored : goal.returns-in-Ok-clause-stored
 returns-in-Ok-clause-stored g c =
     let core = c.take_message.new.self.core in
     let s = c.take_message.new.self.shelf in
-    λ _. are_listed core s.list s.limits s.broken (g.D.Disk.shown s.disk) c.take_message.new.self.room (kept_all core c.stands.ensures.stands c.stands.ensures.held c.stands.ensures.accepted c.spelled_is_kept.ensures) c.in-Ok.ensures.stored
+    λ _. are_listed core s.list s.limits s.broken (g.D.Disk.shown s.disk) c.take_message.new.self.room (kept_all core c.sound.ensures.sound c.sound.ensures.held c.sound.ensures.accepted c.spelled_is_kept.ensures) c.in-Ok.ensures.stored
 
 pub returns-in-Ok-clause-stored_where_asked : goal.returns-in-Ok-clause-stored_where_asked
 returns-in-Ok-clause-stored_where_asked g c =
     let core = c.take_message.new.self.core in
     let s = c.take_message.new.self.shelf in
-    inr (are_listed core s.list s.limits s.broken (g.D.Disk.shown s.disk) c.take_message.new.self.room (kept_all core c.stands.ensures.stands c.stands.ensures.held c.stands.ensures.accepted c.spelled_is_kept.ensures) c.in-Ok.ensures.stored)
+    inr (are_listed core s.list s.limits s.broken (g.D.Disk.shown s.disk) c.take_message.new.self.room (kept_all core c.sound.ensures.sound c.sound.ensures.held c.sound.ensures.accepted c.spelled_is_kept.ensures) c.in-Ok.ensures.stored)
 
 pub returns-in-Ok-clause-read : goal.returns-in-Ok-clause-read
 returns-in-Ok-clause-read g c =
@@ -28,7 +28,7 @@ returns-in-Ok-clause-stores g c =
     let old = c.args.self.now.shelf in
     let s = c.take_message.new.self.shelf in
     λ _. stores_on old.list (g.D.Disk.shown old.disk) c.take_message.new.self.core s.list (g.D.Disk.shown s.disk)
-    (kept_all c.take_message.new.self.core c.stands.ensures.stands c.stands.ensures.held c.stands.ensures.accepted c.spelled_is_kept.ensures) c.take_message.ensures.goes_on
+    (kept_all c.take_message.new.self.core c.sound.ensures.sound c.sound.ensures.held c.sound.ensures.accepted c.spelled_is_kept.ensures) c.take_message.ensures.goes_on
 
 pub returns-in-Err-clause-goes : goal.returns-in-Err-clause-goes
 returns-in-Err-clause-goes g c = goes_by _ _ c.in-Err.fault c.in-Err.ensures.kept c.args.self.now.broken c.breaks-self.result c.if-self.false c.breaks-self.ensures
@@ -45,7 +45,7 @@ returns-in-Err-clause-stored g c =
     let core = c.take_message.new.self.core in
     let s = c.take_message.new.self.shelf in
     λ whole. are_listed core s.list s.limits s.broken (g.D.Disk.shown s.disk) c.take_message.new.self.room
-    (kept_all core c.stands-in-Err.ensures.stands c.stands-in-Err.ensures.held c.stands-in-Err.ensures.accepted c.spelled_is_kept-in-Err.ensures) (still_stored _ c.in-Err.fault c.in-Err.ensures.kept c.breaks-self.result c.breaks-self.ensures whole)
+    (kept_all core c.sound-in-Err.ensures.sound c.sound-in-Err.ensures.held c.sound-in-Err.ensures.accepted c.spelled_is_kept-in-Err.ensures) (still_stored _ c.in-Err.fault c.in-Err.ensures.kept c.breaks-self.result c.breaks-self.ensures whole)
 
 pub returns-in-Err-clause-stored_where_asked : goal.returns-in-Err-clause-stored_where_asked
 returns-in-Err-clause-stored_where_asked g c =
@@ -53,7 +53,7 @@ returns-in-Err-clause-stored_where_asked g c =
     let s = c.take_message.new.self.shelf in
     ⊎_elim inl
     (λ stored. inr (are_listed core s.list s.limits s.broken (g.D.Disk.shown s.disk) c.take_message.new.self.room
-    (kept_all core c.stands-in-Err.ensures.stands c.stands-in-Err.ensures.held c.stands-in-Err.ensures.accepted c.spelled_is_kept-in-Err.ensures) stored))
+    (kept_all core c.sound-in-Err.ensures.sound c.sound-in-Err.ensures.held c.sound-in-Err.ensures.accepted c.spelled_is_kept-in-Err.ensures) stored))
     c.take_message.ensures.stored_where_asked
 
 pub returns-in-Err-clause-read : goal.returns-in-Err-clause-read
@@ -67,7 +67,7 @@ returns-in-Err-clause-stores g c =
     let old = c.args.self.now.shelf in
     let s = c.take_message.new.self.shelf in
     λ _. stores_on old.list (g.D.Disk.shown old.disk) c.take_message.new.self.core s.list (g.D.Disk.shown s.disk)
-    (kept_all c.take_message.new.self.core c.stands-in-Err.ensures.stands c.stands-in-Err.ensures.held c.stands-in-Err.ensures.accepted c.spelled_is_kept-in-Err.ensures) c.take_message.ensures.goes_on
+    (kept_all c.take_message.new.self.core c.sound-in-Err.ensures.sound c.sound-in-Err.ensures.held c.sound-in-Err.ensures.accepted c.spelled_is_kept-in-Err.ensures) c.take_message.ensures.goes_on
 
 pub invariant_of-self-in-Err-clause-stored : goal.invariant_of-self-in-Err-clause-stored
 invariant_of-self-in-Err-clause-stored g c = λ whole. still_stored _ c.in-Err.fault c.in-Err.ensures.kept c.breaks-self.result c.breaks-self.ensures whole

@@ -124,7 +124,7 @@ returns-in_ok-ask_open-in-Event-clause-goes_on g c =
 pub returns-in_ok-ask_open-in-Event-clause-taken : goal.returns-in_ok-ask_open-in-Event-clause-taken
 returns-in_ok-ask_open-in-Event-clause-taken g c =
     let ready = rw c.in-Event.is at c.in_ok-taken.ensures.taken in
-    taken_as (g.V.Verifier.says c.args.verifier.now) c.take_in.new.core c.ask_open.new.core ready.known c.stands.ensures.stands (hears_of c.ask_open.ensures.asks)
+    taken_as (g.V.Verifier.says c.args.verifier.now) c.take_in.new.core c.ask_open.new.core ready.known c.sound.ensures.sound (hears_of c.ask_open.ensures.asks)
     c.args.self.now.limits c.args.self.now.core c.args.self.now.shelf.list c.ask_open.new.shelf.list c.args.message.now c.in-Event.number c.take_in.new.room ready
 
 pub returns-in_err-taken-clause-verdicts : goal.returns-in_err-taken-clause-verdicts

@@ -19,7 +19,7 @@ returns-clause-takes g c = λ whole.
       whole = is;
       listed = e.stored is;
       read = e.read is;
-      starts = starts_again new.core new.shelf.list c.journal-journal.ensures.stands
+      starts = starts_again new.core new.shelf.list c.journal-journal.ensures.sound
           (still_grown (g.V.Verifier.says c.args.self.now.verifier) old.core new.core c.args.message.now c.take-taken.result (e.told whole) (old.stored whole).grown) (e.read is);
     })
     e.disk_same e.verifier_same e.signer_same e.causes
@@ -32,8 +32,8 @@ returns-clause-same g c = λ whole.
       key = e.same.0;
       limits = e.same.1;
       stores = stores;
-      lawful = lawful_list c.take-taken.new.self.core stores.accepted c.journal-journal.ensures.stands
-          (all_kept c.take-taken.new.self.core c.journal-journal.ensures.stands c.spelled_is_kept.ensures)
+      lawful = lawful_list c.take-taken.new.self.core stores.accepted c.journal-journal.ensures.sound
+          (all_kept c.take-taken.new.self.core c.journal-journal.ensures.sound c.spelled_is_kept.ensures)
           (still_grown (g.V.Verifier.says c.args.self.now.verifier) c.args.self.now.witness.core c.take-taken.new.self.core c.args.message.now c.take-taken.result (e.told whole) (c.args.self.now.witness.stored whole).grown) stores.listed;
     }
 

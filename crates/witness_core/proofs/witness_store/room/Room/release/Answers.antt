@@ -9,7 +9,7 @@ use Rattle.witness_core.proofs.witness_store.room.Room.release.Goals.{After-jour
 use Rattle.witness_core.proofs.witness_store.room.Room.release.Goals as goal
 
 known : (c : After-journal) → IsKnown c.args.core.now
-known c = known_by c.args.core.now c.accepted.result.now c.accepted.ensures.held c.accepted.ensures.accepted c.accepted.ensures.numbers c.journal.ensures.stands
+known c = known_by c.args.core.now c.accepted.result.now c.accepted.ensures.held c.accepted.ensures.accepted c.accepted.ensures.numbers c.journal.ensures.sound
 
 pub offset_bounds-accepted-place : goal.offset_bounds-accepted-place
 offset_bounds-accepted-place c =
@@ -34,7 +34,7 @@ index-requires c =
 pub weight-requires : goal.weight-requires
 weight-requires c =
     let (b, at) = some_at (accepted_by c.args.core.now) c.args.place c.requires.accepted in
-    let held = held_there c.args.core.now c.accepted.result.now c.accepted.ensures.held c.accepted.ensures.accepted c.args.place b at c.journal.ensures.stands in
+    let held = held_there c.args.core.now c.accepted.result.now c.accepted.ensures.held c.accepted.ensures.accepted c.args.place b at c.journal.ensures.sound in
     let bytes = bytes_there c.args.core.now c.accepted.result.now c.accepted.ensures.held c.accepted.ensures.accepted c.args.place b at
     c.as_slice.result.now (c.as_slice.ensures ∙ c.journal.ensures.bodies) 0 c.index-as_slice-number.result c.index-as_slice-number.result c.index-as_slice-number.is in
     omega (arith, c.len-bytes.ensures, ap length bytes, held.few)

@@ -11,10 +11,10 @@ fn number(_number: u64)
 {}
 
 /// The parts of a name are in the ranges of an event seal's.
-pub(crate) fn held(name: Name)
+pub(crate) fn in_range(name: Name)
     ensures { IsEventSeal (record { prefix = name.prefix; sn = name.sn; said = name.said }) }
 {
-    name.prefix.held();
+    name.prefix.in_range();
     number(name.sn);
-    name.said.held();
+    name.said.in_range();
 }

@@ -7,67 +7,67 @@ ghost use Rattle.event_body.specs.EventBody.Typed.{IsTyped, IsTypedInception, Is
 ghost use Rattle.event_body.specs.EventWriting.Writable.{HasOwnThresholds};
 
 use crate::event_body::{Event, Inception, Interaction, ReceiptBody, Rotation};
-use cesr_codes::{Prefix, Spelled, all_held};
+use cesr_codes::{Prefix, Spelled, all_in_range};
 
 fn delegator(delegator: Option<Prefix>)
     ensures { IfSome delegator IsPrefix }
 {
     if let Some(found) = delegator {
-        found.held();
+        found.in_range();
     }
 }
 
 fn inception(event: &Inception)
-    ensures held { IsTypedInception event.now }
+    ensures typed { IsTypedInception event.now }
     ensures thresholds { HasOwnValue event.now.kt × HasOwnValue event.now.nt }
 {
-    event.said.held();
-    event.prefix.held();
+    event.said.in_range();
+    event.prefix.in_range();
     event.kt.own_value();
-    all_held(event.keys.as_slice());
+    all_in_range(event.keys.as_slice());
     event.nt.own_value();
-    all_held(event.next.as_slice());
+    all_in_range(event.next.as_slice());
     let _toad = event.toad;
-    all_held(event.list.as_slice());
+    all_in_range(event.list.as_slice());
     delegator(event.delegator);
 }
 
 fn rotation(event: &Rotation)
-    ensures held { IsTypedRotation event.now }
+    ensures typed { IsTypedRotation event.now }
     ensures thresholds { HasOwnValue event.now.kt × HasOwnValue event.now.nt }
 {
-    event.said.held();
-    event.prefix.held();
+    event.said.in_range();
+    event.prefix.in_range();
     let _sn = event.sn;
-    event.prior.held();
+    event.prior.in_range();
     event.kt.own_value();
-    all_held(event.keys.as_slice());
+    all_in_range(event.keys.as_slice());
     event.nt.own_value();
-    all_held(event.next.as_slice());
+    all_in_range(event.next.as_slice());
     let _toad = event.toad;
-    all_held(event.cuts.as_slice());
-    all_held(event.adds.as_slice());
+    all_in_range(event.cuts.as_slice());
+    all_in_range(event.adds.as_slice());
 }
 
 fn interaction(event: &Interaction)
     ensures { IsTypedInteraction event.now }
 {
-    event.said.held();
-    event.prefix.held();
+    event.said.in_range();
+    event.prefix.in_range();
     let _sn = event.sn;
-    event.prior.held();
+    event.prior.in_range();
 }
 
 fn receipt(receipt: &ReceiptBody)
     ensures { IsTypedReceipt receipt.now }
 {
-    receipt.said.held();
-    receipt.prefix.held();
+    receipt.said.in_range();
+    receipt.prefix.in_range();
     let _sn = receipt.sn;
 }
 
-pub(crate) fn held(event: &Event)
-    ensures held { IsTyped event.now }
+pub(crate) fn in_range(event: &Event)
+    ensures typed { IsTyped event.now }
     ensures thresholds { HasOwnThresholds event.now }
 {
     match event {

@@ -1,6 +1,6 @@
 use Rattle.std.proofs.Common.{take}
 use Rattle.std.specs.List.{AllByRecursion}
-use Rattle.cesr_codes.proofs.spelled.all_held.Given as goal
+use Rattle.cesr_codes.proofs.spelled.all_in_range.Given as goal
 
 -- those so far are in the range of their type
 abbrev pub invariant-loop-value : goal.invariant-loop-value

@@ -3,7 +3,7 @@ use Rattle.std.specs.Prelude.{slice_get}
 use Rattle.std.proofs.lemmas.Bool.{ne_eqb}
 use Rattle.validator_core.specs.Tables.EntryClaims.{is_receipt_of}
 use Rattle.validator_core.proofs.TablesLemmas.Places.{got}
-use Rattle.validator_core.proofs.tables.entry_claims.stands_on.Goals as goal
+use Rattle.validator_core.proofs.tables.entry_claims.bears_on.Goals as goal
 
 pub returns-else-came-number : goal.returns-else-came-number
 returns-else-came-number c =
