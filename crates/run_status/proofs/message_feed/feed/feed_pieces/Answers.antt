@@ -35,7 +35,7 @@ loop-room-preserved g c =
     record {
       read = record {
         fed = inv.fed ++ piece.piece;
-        idle = rw c.in-Ok-None.field-0-is at c.in-Ok-None.ensures.stands;
+        idle = rw c.in-Ok-None.field-0-is at c.in-Ok-None.ensures.stops;
         serves = now.0;
         gave = gave_more _ _ _ inv.fed piece.piece inv.gave piece.gave;
         counted = counted_on inv.fed piece.piece c.loop-room.room c.in-Ok.count c.args.most piece.counted piece.few inv.counted;
@@ -57,7 +57,7 @@ returns-in-Ok-Some-clause-runs g c =
     runs (g.T.Taker.has_taken g.first) (g.T.Taker.has_stopped g.first) c.args.most (g.S.Source.left c.args.source.now) (g.S.Source.left c.feed_piece.new.source)
     (g.S.Source.faults c.args.source.now) (g.S.Source.faults c.feed_piece.new.source) c.args.reader.now (inv.fed ++ piece.piece) c.take_items.new.reader c.args.assembler.now c.take_items.new.assembler c.take_items.new.taker
     now.0 (now.1.body_limit ∙ (ap (λ r. r.limit) more ∙ inv.body_limit)) (now.1.message_limit ∙ inv.message_limit) (omega (arith, count)) (Bad c.in-Ok-Some.bad)
-    (gave_more _ _ _ inv.fed piece.piece inv.gave piece.gave, inl (rw c.in-Ok-Some.field-0-is at c.in-Ok-Some.ensures.stands), piece.same_faults ∙ c.loop-room.invariant.same_faults) now.0.taken
+    (gave_more _ _ _ inv.fed piece.piece inv.gave piece.gave, inl (rw c.in-Ok-Some.field-0-is at c.in-Ok-Some.ensures.stops), piece.same_faults ∙ c.loop-room.invariant.same_faults) now.0.taken
 
 pub returns-in-Err-Stopped-take_items-clause-runs : goal.returns-in-Err-Stopped-take_items-clause-runs
 returns-in-Err-Stopped-take_items-clause-runs g c =
