@@ -88,4 +88,4 @@ pub started_stored : (core : CoreView) (list : List (List ℕ)) (limits shelf_li
     → broken ≡ false → AllHold disk list → AreStored (history_of core) list shelf_limits broken disk room
 started_stored core list limits shelf_limits broken disk room is first few whole holds =
     subst (λ b. AreStored (history_of core) list shelf_limits b disk room) (sym whole)
-    (started core list shelf_limits disk room (is.base ∙ length-map list text_in) is.log.reading.bytes_are is.log.fit is.entries first.stands.in_order first.signatures first.reserved few holds)
+    (started core list shelf_limits disk room (is.base ∙ length-map list text_in) is.log.reading.bytes_are is.log.fit is.entries first.sound.in_order first.signatures first.reserved few holds)
