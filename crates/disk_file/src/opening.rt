@@ -1,8 +1,9 @@
 //! Opening a file for this process alone.
-ghost use Rattle.std.specs.Prelude.{◌≡◌, OnOk, false, is_err};
+ghost use Rattle.std.specs.Prelude.{◌≡◌, IfOk};
+ghost use Rattle.disk_file.specs.Untold.{disk_faults};
 
-use crate::OpenError;
-use std::fs::{File, OpenOptions, TryLockError};
+use crate::{DiskOver, FileDisk, OpenError, RealFile};
+use std::fs::{File, OpenOptions};
 use std::io::ErrorKind;
 use std::os::fd::AsRawFd;
 use std::{fs, io};
@@ -15,7 +16,9 @@ pub(crate) fn open_alone(
     rt: &HostRuntime,
     path: &str,
     options: &OpenOptions,
-) -> Result<File, OpenError> {
+) -> Result<FileDisk, OpenError>
+    ensures { IfOk result (λ disk. disk_faults disk ≡ 0) }
+{
     // Opening alone may change what isn't a file, as a terminal or a tape.
     if is_of_another_kind(rt, path)? {
         return Err(OpenError::NotAFile);
@@ -25,12 +28,9 @@ pub(crate) fn open_alone(
     if file.as_raw_fd() <= LAST_STREAM {
         file = file.try_clone()?;
     }
-    if !file.metadata()?.is_file() {
-        return Err(OpenError::NotAFile);
-    }
-    lock(&file)?;
-    make_durable(rt, path, &file)?;
-    Ok(file)
+    let disk = DiskOver::alone(RealFile { file })?;
+    make_durable(rt, path, &disk.file.file)?;
+    Ok(disk)
 }
 
 fn is_of_another_kind(rt: &HostRuntime, path: &str) -> io::Result<bool> {
@@ -38,21 +38,6 @@ fn is_of_another_kind(rt: &HostRuntime, path: &str) -> io::Result<bool> {
         Ok(found) => Ok(!found.is_file()),
         Err(error) if error.kind() == ErrorKind::NotFound => Ok(false),
         Err(error) => Err(error),
-    }
-}
-
-fn lock(file: &File) -> Result<(), OpenError> {
-    answer_to(file.try_lock())
-}
-
-// The file is this process's alone only where locking it came about.
-fn answer_to(tried: Result<(), TryLockError>) -> Result<(), OpenError>
-    ensures { OnOk result (is_err tried ≡ false) }
-{
-    match tried {
-        Ok(()) => Ok(()),
-        Err(TryLockError::WouldBlock) => Err(OpenError::Busy),
-        Err(TryLockError::Error(error)) => Err(OpenError::Io(error)),
     }
 }
 
