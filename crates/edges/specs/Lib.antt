@@ -1,1 +1,5 @@
+pub mod Acts
+pub mod Ending
+pub mod Memory
 pub mod Over
+pub mod Room
