@@ -1,6 +1,6 @@
 #!/usr/bin/env python3
 """The helper protocol over PyNaCl: what keri-ed25519 does, but for making keys and allowing what was refused, written
-apart from it. It reads a record whole for each signature, and holds nothing of it.
+apart from it. It reads a record whole for each signature, and has no index.
 
 It is there to test keri-ed25519 against. Seeds aren't locked in memory and aren't wiped here. README.md in the folder
 ed25519 has the protocol, the key folder and the statuses.
@@ -104,7 +104,9 @@ def signing_key(key):
 # The front of an event's body, and the line that records one.
 FRONT = re.compile(rb'\{"v":"KERI10JSON([0-9a-f]{6})_","t":"(icp|rot|ixn|dip|drt)","d":"([EI][A-Za-z0-9_-]{43})","i":"([BDEI][A-Za-z0-9_-]{43})",'
                    rb'"s":"(0|[1-9a-f][0-9a-f]{0,15})",')
-LINE = re.compile(rb"(0|[1-9a-f][0-9a-f]{0,15}) (icp|rot|ixn|dip|drt) ([EI][A-Za-z0-9_-]{43}) (I[A-Za-z0-9_-]{43}) (first|recovers|allowed)")
+EVENT = rb"(icp|rot|ixn|dip|drt) ([EI][A-Za-z0-9_-]{43}) (I[A-Za-z0-9_-]{43}) "
+LINE = re.compile(rb"([BDEI][A-Za-z0-9_-]{43}) ([0-9a-f]{16}) " + EVENT + rb"(first   |recovers|allowed )")
+OLDER = re.compile(rb"(0|[1-9a-f][0-9a-f]{0,15}) " + EVENT + rb"(first|recovers|allowed)")
 
 
 class Record:
@@ -126,13 +128,13 @@ class Record:
         self.matches = [match for match in found if match]
         self.end = sum(len(match[0]) + 1 for match in self.matches)
 
-    def keep(self, line=None):
-        """Puts a line behind the others where there is one, and syncs the file and its name."""
+    def keep(self, lines=b""):
+        """Puts lines behind the others where there are some, and syncs the file and its name."""
         try:
-            if line is not None:
+            if lines:
                 os.ftruncate(self.file, self.end)
                 os.lseek(self.file, self.end, os.SEEK_SET)
-                if os.write(self.file, line) < len(line):
+                if os.write(self.file, lines) < len(lines):
                     raise OSError(0, "there is no room")
             os.fsync(self.file)
             os.fsync(self.folder)
@@ -158,11 +160,13 @@ def way_of(folder, key, asked, digest, lines):
     _, kind, said, prefix, number = asked.groups()
     here = {b"ixn": None, b"other": None}
     known = other_body = later = False
-    for at, its_kind, its_said, its_digest, way in (line.groups() for line in lines):
+    for its_prefix, at, its_kind, its_said, its_digest, way in (line.groups() for line in lines):
+        if its_prefix != prefix:
+            continue
         if way == b"recovers" and int(at, 16) < int(number, 16):
             here[b"ixn"] = None
         later |= its_kind != b"ixn" and int(at, 16) > int(number, 16)
-        if at == number:
+        if int(at, 16) == int(number, 16):
             known |= its_digest == digest
             other_body |= its_said == said and its_digest != digest
             here[b"ixn" if its_kind == b"ixn" else b"other"] = its_kind + b" " + its_said
@@ -179,6 +183,29 @@ def way_of(folder, key, asked, digest, lines):
     raise Fault(KEY_FAULT, f"{key}: {text.decode()}")
 
 
+def line_of_event(prefix, number, kind, said, digest, way):
+    return b"%s %016x %s %s %s %-8s\n" % (prefix, int(number, 16), kind, said, digest, way)
+
+
+def record_of(folder, key, prefix):
+    """The key's record, once it has all lines of the older one of the identifier, where there still is one."""
+    name, older_name = f".signed-{key[1:]}", f".signed-{key[1:]}-{prefix.decode()}"
+    record = Record(folder, name, LINE)
+    try:
+        os.lstat(older_name, dir_fd=folder)
+    except FileNotFoundError:
+        return record
+    older = Record(folder, older_name, OLDER)
+    known = {match.group(1, 2, 5) for match in record.matches}
+    lines = [line_of_event(prefix, *match.groups()) for match in older.matches]
+    record.keep(b"".join(line for line in lines if LINE.fullmatch(line[:-1]).group(1, 2, 5) not in known))
+    os.unlink(older_name, dir_fd=folder)
+    os.fsync(folder)
+    older.close()
+    record.close()
+    return Record(folder, name, LINE)
+
+
 def recorded(key, body):
     """Keeps that the key signs the event before it does; answers the record, which is locked until it is closed. None
     of other bytes."""
@@ -188,9 +215,9 @@ def recorded(key, body):
     folder = os.open(os.environ["KERI_KEYS"], os.O_RDONLY | os.O_DIRECTORY)
     digest = spelled("I", hashlib.sha256(body).digest(), 44).encode()
     try:
-        record = Record(folder, f".signed-{key[1:]}-{asked[4].decode()}", LINE)
+        record = record_of(folder, key, asked[4])
         way = way_of(folder, key, asked, digest, record.matches)
-        record.keep(way and b"%s %s %s %s %s\n" % (asked[5], asked[2], asked[3], digest, way))
+        record.keep(way and line_of_event(asked[4], asked[5], asked[2], asked[3], digest, way) or b"")
     except OSError as fault:
         raise Fault(KEY_FAULT, f"{key}: its record can't be kept: {fault.strerror}") from None
     finally:

@@ -18,7 +18,10 @@
 
 typedef ssize_t moving(int, void *, size_t);
 typedef ssize_t moving_at(int, void *, size_t, off_t);
+typedef ssize_t moving_to(int, const void *, size_t, off_t);
 typedef int syncing(int);
+typedef int cutting(int, off_t);
+typedef int unlinking(int, const char *, int);
 typedef int renaming(int, const char *, int, const char *);
 typedef int locking(const void *, size_t);
 
@@ -97,6 +100,31 @@ ssize_t write(int file, const void *bytes, size_t length)
     if (fails("write") || (!moved && length))
         return -1;
     return ((moving *)dlsym(RTLD_NEXT, "write"))(file, (void *)bytes, moved);
+}
+
+ssize_t pwrite(int file, const void *bytes, size_t length, off_t at)
+{
+    static int calls;
+    size_t moved = chopped(&calls, length);
+
+    if (fails("pwrite") || (!moved && length))
+        return -1;
+    return ((moving_to *)dlsym(RTLD_NEXT, "pwrite"))(file, bytes, moved, at);
+}
+
+int fdatasync(int file)
+{
+    return fails("fdatasync") ? -1 : ((syncing *)dlsym(RTLD_NEXT, "fdatasync"))(file);
+}
+
+int ftruncate(int file, off_t length)
+{
+    return fails("ftruncate") ? -1 : ((cutting *)dlsym(RTLD_NEXT, "ftruncate"))(file, length);
+}
+
+int unlinkat(int folder, const char *name, int flags)
+{
+    return fails("unlinkat") ? -1 : ((unlinking *)dlsym(RTLD_NEXT, "unlinkat"))(folder, name, flags);
 }
 
 int fsync(int file)

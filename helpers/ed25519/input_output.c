@@ -96,6 +96,20 @@ bool write_whole(int file, const void *bytes, size_t length)
     return true;
 }
 
+bool write_whole_at(int file, const void *bytes, size_t length, off_t at)
+{
+    size_t done = 0;
+
+    while (done < length) {
+        ssize_t count = pwrite(file, (const char *)bytes + done, length - done, at + (off_t)done);
+        if (count >= 0)
+            done += (size_t)count;
+        else if (errno != EINTR)
+            return false;
+    }
+    return true;
+}
+
 const char *why_not_opened(int folder, const char *name)
 {
     int error = errno;

@@ -28,6 +28,9 @@ ssize_t read_whole_at(int file, void *bytes, size_t length, off_t at);
 /* Writes all bytes. At false, errno says why, and some of them may have been written. */
 bool write_whole(int file, const void *bytes, size_t length);
 
+/* The same at a place of a file. */
+bool write_whole_at(int file, const void *bytes, size_t length, off_t at);
+
 /* Why a file of a folder couldn't be opened where no link is followed, by errno. */
 const char *why_not_opened(int folder, const char *name);
 

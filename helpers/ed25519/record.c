@@ -9,13 +9,16 @@
 #include <sys/stat.h>
 #include <unistd.h>
 
+#include "older_record.h"
 #include "record_index.h"
 #include "record_lines.h"
 #include "signed_event.h"
 
 #define SIGNED ".signed-"
 
-_Static_assert(RECORD_NAME >= sizeof SIGNED + KEY_CHARACTERS + NAME_CHARACTERS, "a record's name has room");
+enum { LEAVE_NAME = NAME_CHARACTERS + 16 };
+
+_Static_assert((int)SIGNED_LINE <= (int)MOST_LINE, "a line has room");
 
 /* Takes a line of what may be signed all the same. */
 static bool take_leave(const char *line, size_t length, off_t at, void *into)
@@ -34,7 +37,7 @@ static bool take_leave(const char *line, size_t length, off_t at, void *into)
 /* Finds whether a digest may be signed all the same. Answers NULL, or what failed. */
 static const char *look_for_leave(int folder, const char *key, const char *said, bool *is_allowed)
 {
-    char name[RECORD_NAME];
+    char name[LEAVE_NAME];
     struct lines lines = {-1, 0};
     const char *sought = said;
 
@@ -77,30 +80,36 @@ static const char *judge(int folder, const char *key, const struct event_front *
     return fault_text;
 }
 
-/* Records the event in its file. Where it is new there, how it came goes to it. */
+/* Puts the event into the record. */
+static const char *put_event(struct record *record, const struct signed_event *event)
+{
+    char line[SIGNED_LINE + 1];
+    const char *fault = begin_change(record);
+
+    write_signed(event, line);
+    if (fault == NULL)
+        fault = append(&record->lines, line);
+    return fault != NULL ? fault : end_change(record);
+}
+
+/* Records the event in the key's file. Where it is new there, how it came goes to it. */
 static const char *record_in(int folder, const char *key, struct signed_event *asked, int *lock)
 {
-    char name[RECORD_NAME], line[MOST_LINE] = "";
-    struct record_index *index;
+    struct record record;
     struct finding finding;
+    const char *fault = open_record(folder, key, &record);
 
-    (void)snprintf(name, sizeof name, SIGNED "%s-%s", key + 1, asked->front.prefix);
-    const char *fault = open_locked(folder, name, lock);
-    struct lines lines = {*lock, 0};
+    *lock = record.lines.file;
     if (fault == NULL)
-        fault = index_of(name, &lines, &index);
+        fault = take_over(&record, key, asked->front.prefix);
     if (fault == NULL)
-        fault = find_event(index, &lines, asked, &finding);
-    if (fault == NULL && !finding.is_known) {
+        fault = find_event(&record, asked, &finding);
+    if (fault == NULL && !finding.is_known)
         fault = judge(folder, key, &asked->front, &finding, &asked->way);
-        if (fault == NULL) {
-            write_signed(asked, line, sizeof line);
-            fault = append(&lines, line);
-        }
-    }
     if (fault == NULL)
-        fault = sync_lines(&lines, folder);
-    return fault != NULL ? fault : note_left(index, &lines, asked, strlen(line));
+        fault = finding.is_known ? sync_record(&record) : put_event(&record, asked);
+    close_index(&record);
+    return fault;
 }
 
 const char *record_event(int folder, const char *key, const unsigned char *body, size_t length, int *lock)
@@ -119,7 +128,7 @@ const char *record_event(int folder, const char *key, const unsigned char *body,
 
 const char *record_leave(int folder, const char *key, const char said[NAME_CHARACTERS + 1])
 {
-    char name[RECORD_NAME], line[NAME_CHARACTERS + 2];
+    char name[LEAVE_NAME], line[NAME_CHARACTERS + 2];
     struct lines lines = {-1, 0};
     const char *sought = said;
 
@@ -144,10 +153,12 @@ bool is_record(int folder, const char *name, char key[KEY_CHARACTERS])
     unsigned char bytes[KEY_BYTES];
     struct stat found;
 
-    if (strncmp(name, SIGNED, sizeof SIGNED - 1) != 0 || strlen(rest) != KEY_CHARACTERS + NAME_CHARACTERS
-        || rest[KEY_CHARACTERS - 1] != '-' || !read_name(rest + KEY_CHARACTERS, "BDEI", prefix))
+    if (strncmp(name, SIGNED, sizeof SIGNED - 1) != 0 || strlen(rest) < KEY_CHARACTERS - 1)
         return false;
     memcpy(spelled + 1, rest, KEY_CHARACTERS - 1);
+    rest += KEY_CHARACTERS - 1;
+    bool is_older = rest[0] == '-' && strlen(rest) == 1 + NAME_CHARACTERS && read_name(rest + 1, "BDEI", prefix);
     memcpy(key, spelled + 1, KEY_CHARACTERS);
-    return read_key(spelled, bytes) && fstatat(folder, name, &found, AT_SYMLINK_NOFOLLOW) == 0 && found.st_size > 0;
+    return (rest[0] == '\0' || is_older) && read_key(spelled, bytes)
+        && fstatat(folder, name, &found, AT_SYMLINK_NOFOLLOW) == 0 && found.st_size > 0;
 }

@@ -1,5 +1,5 @@
-/* What each key has signed: a file in the key folder for each key and identifier, with a line for each event. A key is
-   the same under its codes B and D. */
+/* What each key has signed: a file in the key folder for each key, with a line for each event. A key is the same under
+   its codes B and D. */
 #ifndef RECORD_H
 #define RECORD_H
 

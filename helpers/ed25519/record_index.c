@@ -1,257 +1,232 @@
 #include "record_index.h"
 
 #include <errno.h>
-#include <search.h>
-#include <stdlib.h>
+#include <stdio.h>
 #include <string.h>
 #include <sys/stat.h>
+#include <unistd.h>
 
-/* All indexes together take hardly more bytes than that, or there is one alone. */
-#ifndef MOST_HELD
-#define MOST_HELD 67108864
-#endif
+enum { RECORD_NAME = NAME_CHARACTERS + 16 };
 
-/* Where a line stands, and the number of its event. */
-struct place {
-    uint64_t number;
-    off_t at;
+/* What the index maps. Places are those of lines, in bytes. */
+enum sort {
+    PLACE = 'p',    /* an identifier and a number, to the last line of such an event */
+    OLDER = 'o',    /* the place of a line, to that of the line before it with the same identifier and number */
+    LATEST = 'l',   /* an identifier, to the highest number of an establishment event of it */
+    RECOVERY = 'r', /* an identifier, to the last line of a recovery of it */
+    BEFORE = 'b'    /* the place of a recovery, to that of the recovery of this identifier before it */
 };
 
-struct places {
-    struct place *items;
-    size_t count, room;
-};
-
-/* The index of a record. Of the recoveries those are kept behind which none has a number that is as low: so both numbers
-   and places rise. */
-struct record_index {
-    struct record_index *next;       /* of all that are held */
-    char name[RECORD_NAME];
-    bool is_left;                    /* whether the file was left as it is noted, and ends with a whole line */
-    struct stat left;
-    off_t end;                       /* of the whole lines */
-    struct places lines, recoveries; /* the lines by their numbers, and those of one number in their order */
-    bool is_sorted, lacks_memory;    /* while it is read */
-    bool establishes;                /* there is an establishment event */
-    uint64_t latest;                 /* the highest number of one */
-};
-
-static struct record_index *all; /* that are held */
-static void *by_name;            /* the same as a tree */
-static size_t held;              /* what they take */
-
-static int in_order(const void *one, const void *other)
+static const char *unfit(void)
 {
-    return strcmp(((const struct record_index *)one)->name, ((const struct record_index *)other)->name);
+    return told("its index in the key folder is damaged (delete .index-KEY)");
 }
 
-static int by_number(const void *one, const void *other)
+/* Puts the place of a line for this identifier, and notes of which one it takes the place. */
+static bool put_last(struct record_map *map, const struct event_front *front, uint64_t at, enum sort last, enum sort before)
 {
-    const struct place *first = one, *second = other;
+    uint64_t number = last == PLACE ? front->number : 0, older;
+    uint64_t key = map_key(map, (char)last, front->prefix, number);
+    bool is_there;
 
-    if (first->number != second->number)
-        return first->number < second->number ? -1 : 1;
-    return first->at < second->at ? -1 : first->at > second->at;
+    return find_number(map, key, &is_there, &older)
+        && (!is_there || put_number(map, map_key(map, (char)before, "", at), older)) && put_number(map, key, at);
 }
 
-/* Forgets what was read, and leaves the index empty. */
-static void empty(struct record_index *index)
+/* Takes the event of a line into the index. */
+static bool put_event(struct record_map *map, const struct signed_event *event, uint64_t at)
 {
-    held -= (index->lines.room + index->recoveries.room) * sizeof(struct place);
-    free(index->lines.items);
-    free(index->recoveries.items);
-    index->lines = index->recoveries = (struct places){NULL, 0, 0};
-    index->is_left = index->establishes = index->lacks_memory = false;
-    index->is_sorted = true;
-}
+    uint64_t key = map_key(map, LATEST, event->front.prefix, 0), latest;
+    bool is_there;
 
-static void forget_all(void)
-{
-    while (all != NULL) {
-        struct record_index *index = all;
-        all = index->next;
-        empty(index);
-        (void)tdelete(index, &by_name, in_order);
-        held -= sizeof *index;
-        free(index);
-    }
-}
-
-/* The index with this name, an empty one where none is held, or NULL at want of memory. */
-static struct record_index *held_index(const char *name)
-{
-    struct record_index sought, **found;
-
-    if (held > MOST_HELD && all->next != NULL)
-        forget_all();
-    memcpy(sought.name, name, strlen(name) + 1);
-    found = tfind(&sought, &by_name, in_order);
-    if (found != NULL)
-        return *found;
-    struct record_index *index = calloc(1, sizeof *index);
-    if (index == NULL)
-        return NULL;
-    memcpy(index->name, name, strlen(name) + 1);
-    index->is_sorted = true;
-    if (tsearch(index, &by_name, in_order) == NULL) {
-        free(index);
-        return NULL;
-    }
-    index->next = all;
-    all = index;
-    held += sizeof *index;
-    return index;
-}
-
-/* How many of the places have a number below this one, or with `and_it` this one too. */
-static size_t below(const struct places *places, uint64_t number, bool and_it)
-{
-    size_t least = 0, most = places->count;
-
-    while (least < most) {
-        size_t middle = least + (most - least) / 2;
-        uint64_t found = places->items[middle].number;
-        if (found < number || (and_it && found == number))
-            least = middle + 1;
-        else
-            most = middle;
-    }
-    return least;
-}
-
-/* Puts a place before that of this index. False at want of memory. */
-static bool put_place(struct places *places, size_t before, uint64_t number, off_t at)
-{
-    if (places->count == places->room) {
-        size_t room = places->room == 0 ? 4 : 2 * places->room;
-        struct place *items = realloc(places->items, room * sizeof *items);
-        if (items == NULL)
-            return false;
-        held += (room - places->room) * sizeof *items;
-        places->items = items;
-        places->room = room;
-    }
-    struct place *place = places->items + before;
-    memmove(place + 1, place, (places->count - before) * sizeof *place);
-    *place = (struct place){number, at};
-    places->count++;
-    return true;
-}
-
-/* Notes what the last line so far says besides its place. False at want of memory. */
-static bool note_event(struct record_index *index, const struct signed_event *event, off_t at)
-{
-    uint64_t number = event->front.number;
-
-    if (establishes(event->front.kind) && (!index->establishes || number > index->latest))
-        index->latest = number;
-    index->establishes |= establishes(event->front.kind);
-    if (event->way != RECOVERS)
+    if (!put_last(map, &event->front, at, PLACE, OLDER)
+        || (event->way == RECOVERS && !put_last(map, &event->front, at, RECOVERY, BEFORE)))
+        return false;
+    if (!establishes(event->front.kind))
         return true;
-    index->recoveries.count = below(&index->recoveries, number, false);
-    return put_place(&index->recoveries, index->recoveries.count, number, at);
+    return find_number(map, key, &is_there, &latest)
+        && ((is_there && latest >= event->front.number) || put_number(map, key, event->front.number));
 }
 
-/* Takes a line into an index. It is sorted once all are there. */
+/* What takes lines into an index, and what went wrong. */
+struct taking {
+    struct record_map *map;
+    int error;
+};
+
 static bool take_event(const char *line, size_t length, off_t at, void *into)
 {
-    struct record_index *index = into;
+    struct taking *taking = into;
     struct signed_event event;
 
     if (!read_signed(line, length, &event))
         return false;
-    size_t count = index->lines.count;
-    if (count > 0 && index->lines.items[count - 1].number > event.front.number)
-        index->is_sorted = false;
-    if (!put_place(&index->lines, count, event.front.number, at) || !note_event(index, &event, at))
-        index->lacks_memory = true;
-    return !index->lacks_memory;
+    if (!put_event(taking->map, &event, (uint64_t)at))
+        taking->error = errno != 0 ? errno : ENOMEM;
+    return taking->error == 0;
 }
 
-/* Whether both are one file that hasn't changed. */
-static bool is_same(const struct stat *one, const struct stat *other)
+/* Takes the lines into the index that stand behind those that it knows. */
+static const char *take_lines(struct record *record)
 {
-    return one->st_dev == other->st_dev && one->st_ino == other->st_ino && one->st_size == other->st_size
-        && one->st_mtim.tv_sec == other->st_mtim.tv_sec && one->st_mtim.tv_nsec == other->st_mtim.tv_nsec
-        && one->st_ctim.tv_sec == other->st_ctim.tv_sec && one->st_ctim.tv_nsec == other->st_ctim.tv_nsec;
+    struct taking taking = {&record->map, 0};
+    const char *fault = read_lines(&record->lines, take_event, &taking);
+
+    return taking.error != 0 ? told(strerror(taking.error)) : fault;
 }
 
-/* Reads the record whole. */
-static const char *read_index(struct record_index *index, struct lines *lines)
+/* Notes how the record is left, once the index tells of it. */
+static const char *keep_index(struct record *record, bool is_named)
 {
-    empty(index);
-    const char *fault = read_lines(lines, take_event, index);
-    if (index->lacks_memory)
-        return told(strerror(ENOMEM));
-    if (fault == NULL && !index->is_sorted)
-        qsort(index->lines.items, index->lines.count, sizeof *index->lines.items, by_number);
-    index->end = lines->end;
-    return fault;
+    struct stat left;
+
+    record->map.head.end = (uint64_t)record->lines.end;
+    record->map.head.is_named = is_named;
+    if (fstat(record->lines.file, &left) != 0 || !keep_map(&record->map, &left))
+        return told(strerror(errno));
+    return NULL;
 }
 
-const char *index_of(const char *name, struct lines *lines, struct record_index **index)
+const char *open_record(int folder, const char *key, struct record *record)
 {
+    char name[RECORD_NAME];
     struct stat found;
 
-    if ((*index = held_index(name)) == NULL)
-        return told(strerror(ENOMEM));
-    if (fstat(lines->file, &found) != 0)
+    *record = (struct record){.folder = folder, .lines = {-1, 0}, .map = {.file = -1, .items = NULL}};
+    (void)snprintf(name, sizeof name, ".signed-%s", key + 1);
+    const char *fault = open_locked(folder, name, &record->lines.file);
+    (void)snprintf(name, sizeof name, ".index-%s", key + 1);
+    if (fault == NULL)
+        fault = open_private(folder, name, &record->map.file);
+    if (fault != NULL)
+        return fault;
+    if (fstat(record->lines.file, &found) != 0)
         return told(strerror(errno));
-    lines->end = (*index)->end;
-    if ((*index)->is_left && is_same(&found, &(*index)->left))
+    if (read_map(&record->map, &found)) {
+        record->lines.end = (off_t)record->map.head.end;
         return NULL;
-    return read_index(*index, lines);
+    }
+    fault = take_lines(record);
+    return fault != NULL || record->lines.end == 0 ? fault : keep_index(record, false);
 }
 
-/* Takes a line of the event's number into a finding; `is_past` says that a recovery behind it took its place. */
-static void take_found(const struct signed_event *event, bool is_past, const struct signed_event *asked,
-                       struct finding *finding)
+/* Reads the line of an event of this identifier, which the index names. */
+static const char *read_event_at(const struct record *record, uint64_t at, const char *prefix, struct signed_event *event)
 {
+    char line[MOST_LINE + 1];
+    size_t length;
+    const char *fault = at < (uint64_t)record->lines.end ? read_line_at(&record->lines, (off_t)at, line, &length) : unfit();
+
+    if (fault != NULL)
+        return fault;
+    return read_signed(line, length, event) && strcmp(event->front.prefix, prefix) == 0 ? NULL : unfit();
+}
+
+/* Finds the place that the index has for this, which is before that one. Where there is none, it is that one. */
+static const char *find_place(const struct record *record, uint64_t key, uint64_t limit, uint64_t *at)
+{
+    bool is_there;
+
+    if (!find_number(&record->map, key, &is_there, at))
+        return told(strerror(errno));
+    if (!is_there)
+        *at = limit;
+    else if (*at >= limit)
+        return unfit();
+    return NULL;
+}
+
+/* Takes an event of the asked number into a finding, the last one first. */
+static void take_found(const struct signed_event *event, const struct signed_event *asked, struct finding *finding)
+{
+    struct signed_event *kept = establishes(event->front.kind) ? &finding->establishment : &finding->interaction;
+
     if (strcmp(event->digest, asked->digest) == 0)
         finding->is_known = true;
     else if (strcmp(event->front.said, asked->front.said) == 0)
         finding->is_other_body = true;
-    if (establishes(event->front.kind))
-        finding->establishment = *event;
-    else if (!is_past)
-        finding->interaction = *event;
+    if (kept->front.kind[0] == '\0')
+        *kept = *event;
 }
 
-const char *find_event(const struct record_index *index, const struct lines *lines, const struct signed_event *asked,
-                       struct finding *finding)
+/* Forgets the interaction where a recovery behind its line took its place. Recoveries of its own number or later ones
+   took none, and are passed by: where the events of a log come in their order, there are none. */
+static const char *leave_out_recovered(const struct record *record, const char *prefix, uint64_t at, struct finding *finding)
 {
-    uint64_t number = asked->front.number;
-    size_t before = below(&index->recoveries, number, false), end = below(&index->lines, number, true);
-    off_t recovered = before > 0 ? index->recoveries.items[before - 1].at : -1;
+    uint64_t limit = (uint64_t)record->lines.end, recovery, key = map_key(&record->map, RECOVERY, prefix, 0);
+    struct signed_event event;
+    const char *fault;
 
-    *finding = (struct finding){.has_later = index->establishes && index->latest > number};
-    for (size_t place = below(&index->lines, number, false); place < end; place++) {
-        char line[MOST_LINE + 1];
-        size_t length;
-        struct signed_event event;
-        off_t at = index->lines.items[place].at;
-        const char *fault = read_line_at(lines, at, line, &length);
+    while ((fault = find_place(record, key, limit, &recovery)) == NULL && recovery != limit && recovery > at) {
+        fault = read_event_at(record, recovery, prefix, &event);
         if (fault != NULL)
             return fault;
-        if (!read_signed(line, length, &event) || event.front.number != number)
-            return damaged();
-        take_found(&event, at < recovered, asked, finding);
+        if (event.front.number < finding->interaction.front.number) {
+            finding->interaction = (struct signed_event){.way = FIRST};
+            return NULL;
+        }
+        limit = recovery;
+        key = map_key(&record->map, BEFORE, "", recovery);
     }
-    return NULL;
+    return fault;
 }
 
-const char *note_left(struct record_index *index, struct lines *lines, const struct signed_event *event, size_t length)
+const char *find_event(const struct record *record, const struct signed_event *asked, struct finding *finding)
 {
-    uint64_t number = event->front.number;
-    off_t at = lines->end;
+    const struct event_front *front = &asked->front;
+    uint64_t limit = (uint64_t)record->lines.end, at, interaction = 0, latest;
+    uint64_t key = map_key(&record->map, PLACE, front->prefix, front->number);
+    struct signed_event event;
+    const char *fault;
+    bool is_there;
 
-    if (length > 0 && !put_place(&index->lines, below(&index->lines, number, true), number, at))
-        return told(strerror(ENOMEM));
-    if (length > 0 && !note_event(index, event, at))
-        return told(strerror(ENOMEM));
-    lines->end = index->end = at + (off_t)length;
-    if (fstat(lines->file, &index->left) != 0)
-        return told(strerror(errno));
-    index->is_left = index->left.st_size == index->end;
-    return NULL;
+    *finding = (struct finding){.is_known = false};
+    while ((fault = find_place(record, key, limit, &at)) == NULL && at != limit) {
+        fault = read_event_at(record, at, front->prefix, &event);
+        if (fault != NULL || event.front.number != front->number)
+            return fault != NULL ? fault : unfit();
+        if (!establishes(event.front.kind) && finding->interaction.front.kind[0] == '\0')
+            interaction = at;
+        take_found(&event, asked, finding);
+        limit = at;
+        key = map_key(&record->map, OLDER, "", at);
+    }
+    if (fault == NULL && !find_number(&record->map, map_key(&record->map, LATEST, front->prefix, 0), &is_there, &latest))
+        fault = told(strerror(errno));
+    if (fault != NULL)
+        return fault;
+    finding->has_later = is_there && latest > front->number;
+    if (finding->is_known || finding->establishment.front.kind[0] != '\0' || finding->interaction.front.kind[0] == '\0')
+        return NULL; /* where an interaction doesn't matter, it isn't asked whether it counts */
+    return leave_out_recovered(record, front->prefix, interaction, finding);
+}
+
+const char *begin_change(struct record *record)
+{
+    return void_map(&record->map) ? NULL : told(strerror(errno));
+}
+
+const char *sync_record(struct record *record)
+{
+    return sync_lines(&record->lines, record->map.head.is_named ? -1 : record->folder);
+}
+
+const char *end_change(struct record *record)
+{
+    struct lines before = record->lines;
+    const char *fault = sync_record(record);
+
+    if (fault != NULL)
+        return fault;
+    fault = take_lines(record);
+    if (fault == NULL)
+        fault = keep_index(record, true);
+    if (fault != NULL && ftruncate(before.file, before.end) != 0)
+        fault = told("a line was written that can't be taken back");
+    return fault;
+}
+
+void close_index(struct record *record)
+{
+    close_map(&record->map);
 }

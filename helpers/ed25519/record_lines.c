@@ -26,8 +26,7 @@ const char *damaged(void)
     return told("the file in the key folder is damaged");
 }
 
-/* Opens the file and locks it. */
-static const char *open_and_lock(int folder, const char *name, int *file)
+const char *open_private(int folder, const char *name, int *file)
 {
     struct stat found;
 
@@ -38,10 +37,18 @@ static const char *open_and_lock(int folder, const char *name, int *file)
         return told(strerror(errno));
     if (!S_ISREG(found.st_mode) || found.st_uid != geteuid() || (found.st_mode & 077) != 0)
         return told("the file isn't a plain one, or isn't yours alone");
-    while (flock(*file, LOCK_EX) != 0)
-        if (errno != EINTR)
-            return told(strerror(errno));
     return NULL;
+}
+
+/* Opens the file and locks it. */
+static const char *open_and_lock(int folder, const char *name, int *file)
+{
+    const char *fault = open_private(folder, name, file);
+
+    while (fault == NULL && flock(*file, LOCK_EX) != 0)
+        if (errno != EINTR)
+            fault = told(strerror(errno));
+    return fault;
 }
 
 const char *open_locked(int folder, const char *name, int *file)
@@ -101,7 +108,6 @@ const char *read_lines(struct lines *lines, line_taker *take, void *into)
     ssize_t count;
     size_t done = 1;
 
-    lines->end = 0;
     while (done > 0 && (count = read_whole_at(lines->file, piece, sizeof piece, lines->end)) > 0) {
         done = take_piece((size_t)count, lines->end, take, into);
         lines->end += (off_t)done;
@@ -141,7 +147,7 @@ const char *append(const struct lines *lines, const char *text)
 
 const char *sync_lines(const struct lines *lines, int folder)
 {
-    if (fsync(lines->file) == 0 && fsync(folder) == 0)
+    if (fsync(lines->file) == 0 && (folder < 0 || fsync(folder) == 0))
         return NULL;
     return take_back(lines);
 }

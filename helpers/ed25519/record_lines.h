@@ -7,7 +7,7 @@
 #include <stddef.h>
 #include <sys/types.h>
 
-enum { MOST_LINE = 160 };
+enum { MOST_LINE = 168 };
 
 /* A file that is open and locked, and where its whole lines end. */
 struct lines {
@@ -24,11 +24,14 @@ const char *told(const char *text);
 /* What is told of a file that isn't as it was left. */
 const char *damaged(void);
 
-/* Opens a file of the folder, made where it isn't there, and locks it, once it still has that name when it is locked.
-   -1 goes to the file where there is none to be closed. */
+/* Opens a file of the folder, made where it isn't there, which has to be plain and the caller's alone. -1 goes to the
+   file where there is none to be closed. */
+const char *open_private(int folder, const char *name, int *file);
+
+/* Opens such a file and locks it, once it still has that name when it is locked. */
 const char *open_locked(int folder, const char *name, int *file);
 
-/* Hands each whole line to the taker, from the first on. A last one that isn't whole, or isn't taken, is left out: a stop
+/* Hands each whole line to the taker, from the noted end on, and notes where they end now. A last one that isn't whole, or isn't taken, is left out: a stop
    left it, and no signature went out with it. */
 const char *read_lines(struct lines *lines, line_taker *take, void *into);
 
@@ -38,7 +41,7 @@ const char *read_line_at(const struct lines *lines, off_t at, char line[MOST_LIN
 /* Puts a line behind the whole ones. At a fault it isn't there. */
 const char *append(const struct lines *lines, const char *text);
 
-/* Syncs the file and its name. Of a line that was put behind the whole ones and couldn't be synced nothing is left that
+/* Syncs the file, and its name in the folder where that isn't -1. Of a line that was put behind the whole ones and couldn't be synced nothing is left that
    could pass for one that was. */
 const char *sync_lines(const struct lines *lines, int folder);
 

@@ -2,7 +2,11 @@
 
 #include <inttypes.h>
 #include <stdio.h>
+#include <stdlib.h>
 #include <string.h>
+
+/* Of a number, with leading zeros. */
+enum { DIGITS = 16 };
 
 /* In the order of `enum way`. */
 static const char *const ways[] = {"first", "recovers", "allowed"};
@@ -18,15 +22,11 @@ static bool is_kind(const char *kind)
     return is_one;
 }
 
-bool read_signed(const char *line, size_t length, struct signed_event *event)
+/* Reads the kind, the digests and the way, and nothing but spaces behind. */
+static bool read_rest(const char *rest, size_t length, struct signed_event *event)
 {
-    const char *rest = line;
-    size_t digits = read_number(line, length, &event->front.number);
-
-    if (digits == 0 || strlen(line) != length || length < digits + 5 + 2 * (NAME_CHARACTERS + 1) + 1
-        || line[digits] != ' ')
+    if (length < 4 + 2 * (NAME_CHARACTERS + 1) + 1)
         return false;
-    rest += digits + 1;
     memcpy(event->front.kind, rest, 3);
     event->front.kind[3] = '\0';
     if (!is_kind(event->front.kind) || rest[3] != ' ' || !read_name(rest + 4, "EI", event->front.said)
@@ -35,16 +35,38 @@ bool read_signed(const char *line, size_t length, struct signed_event *event)
     rest += 4 + NAME_CHARACTERS + 1;
     if (!read_name(rest, "I", event->digest) || rest[NAME_CHARACTERS] != ' ')
         return false;
-    for (enum way way = FIRST; way <= ALLOWED; way++)
-        if (strcmp(rest + NAME_CHARACTERS + 1, ways[way]) == 0) {
+    rest += NAME_CHARACTERS + 1;
+    for (enum way way = FIRST; way <= ALLOWED; way++) {
+        size_t letters = strlen(ways[way]);
+        if (strncmp(rest, ways[way], letters) == 0 && rest[letters + strspn(rest + letters, " ")] == '\0') {
             event->way = way;
             return true;
         }
+    }
     return false;
 }
 
-void write_signed(const struct signed_event *event, char *line, size_t room)
+bool read_older(const char *line, size_t length, struct signed_event *event)
 {
-    (void)snprintf(line, room, "%" PRIx64 " %s %s %s %s\n", event->front.number, event->front.kind, event->front.said,
-                   event->digest, ways[event->way]);
+    size_t digits = read_number(line, length, &event->front.number);
+
+    return digits > 0 && strlen(line) == length && line[digits] == ' ' && line[length - 1] != ' '
+        && read_rest(line + digits + 1, length - digits - 1, event);
+}
+
+bool read_signed(const char *line, size_t length, struct signed_event *event)
+{
+    const char *rest = line + NAME_CHARACTERS + 1;
+
+    if (length != SIGNED_LINE - 1 || strlen(line) != length || !read_name(line, "BDEI", event->front.prefix)
+        || line[NAME_CHARACTERS] != ' ' || strspn(rest, "0123456789abcdef") != DIGITS || rest[DIGITS] != ' ')
+        return false;
+    event->front.number = strtoull(rest, NULL, 16);
+    return read_rest(rest + DIGITS + 1, length - NAME_CHARACTERS - 1 - DIGITS - 1, event);
+}
+
+void write_signed(const struct signed_event *event, char line[SIGNED_LINE + 1])
+{
+    (void)snprintf(line, SIGNED_LINE + 1, "%s %016" PRIx64 " %s %s %s %-8s\n", event->front.prefix, event->front.number,
+                   event->front.kind, event->front.said, event->digest, ways[event->way]);
 }
