@@ -110,6 +110,12 @@ bool write_whole_at(int file, const void *bytes, size_t length, off_t at)
     return true;
 }
 
+void write_output(const void *answer, size_t length)
+{
+    if (!write_whole(STDOUT_FILENO, answer, length))
+        fail(WRITE_FAULT, "standard output", strerror(errno));
+}
+
 const char *why_not_opened(int folder, const char *name)
 {
     int error = errno;

@@ -31,6 +31,9 @@ bool write_whole(int file, const void *bytes, size_t length);
 /* The same at a place of a file. */
 bool write_whole_at(int file, const void *bytes, size_t length, off_t at);
 
+/* Writes an answer, which then is in the pipe. A fault ends the program with WRITE_FAULT. */
+void write_output(const void *answer, size_t length);
+
 /* Why a file of a folder couldn't be opened where no link is followed, by errno. */
 const char *why_not_opened(int folder, const char *name);
 

@@ -157,7 +157,7 @@ static void run(int count, char **words)
     else if (strcmp(form->word, "show") == 0)
         print_kept(words[2]);
     else if (strcmp(form->word, "rehearse") == 0)
-        serve(getenv("KERI_KEYS"));
+        serve(getenv("KERI_KEYS"), getenv("KERI_THREADS"));
     else if (strcmp(form->word, "--version") == 0 || strcmp(form->word, "-V") == 0)
         version();
     else if (strcmp(form->word, "allow") != 0)

@@ -1,29 +1,21 @@
 #include "protocol.h"
 
 #include <errno.h>
-#include <sodium.h>
 #include <string.h>
 #include <unistd.h>
 
 #include "input_output.h"
 #include "key_folder.h"
 #include "primitives.h"
+#include "question.h"
+#include "verdict_ring.h"
 
-enum { LENGTH_DIGITS = 8, MOST_BYTES = 65535 };
+enum { LENGTH_DIGITS = 8 };
 
-/* A question. One for a signature has no signature. */
-struct question {
-    char letter;
-    char key[KEY_CHARACTERS + 1];
-    unsigned char key_bytes[KEY_BYTES];
-    unsigned char signature[SIGNATURE_BYTES];
-    size_t length;
-    unsigned char body[MOST_BYTES];
-};
-
-/* Ends the program, since the question isn't of the form. */
+/* Ends the program, since the question isn't of the form, once those before it are answered. */
 static _Noreturn void malformed(const char *fault)
 {
+    answer_all();
     fail(MALFORMED, "malformed question", fault);
 }
 
@@ -32,8 +24,11 @@ static size_t read_input(void *bytes, size_t length)
 {
     ssize_t count = read_whole(STDIN_FILENO, bytes, length);
 
-    if (count < 0)
-        fail(READ_FAULT, "standard input", strerror(errno));
+    if (count < 0) {
+        int error = errno;
+        answer_all();
+        fail(READ_FAULT, "standard input", strerror(error));
+    }
     return (size_t)count;
 }
 
@@ -98,21 +93,6 @@ static bool read_question(struct question *question)
     return true;
 }
 
-/* Writes an answer, which then is in the pipe. */
-static void put(const void *answer, size_t length)
-{
-    if (!write_whole(STDOUT_FILENO, answer, length))
-        fail(WRITE_FAULT, "standard output", strerror(errno));
-}
-
-/* Says whether the signature is the key's on the body. */
-static void put_verdict(const struct question *question)
-{
-    int refused = crypto_sign_verify_detached(question->signature, question->body, question->length, question->key_bytes);
-
-    put(refused == 0 ? "Y" : "N", 1);
-}
-
 /* Signs the body with the key. */
 static void put_signature(const char *folder, const struct question *question)
 {
@@ -123,17 +103,21 @@ static void put_signature(const char *folder, const struct question *question)
         fail(KEY_FAULT, question->key, "there is no such key: KERI_KEYS names no folder");
     sign_with(folder, question->key, question->body, question->length, signature);
     write_signature(signature, text);
-    put(text, SIGNATURE_CHARACTERS);
+    write_output(text, SIGNATURE_CHARACTERS);
 }
 
-void serve(const char *folder)
+void serve(const char *folder, const char *threads)
 {
-    struct question question;
+    struct question *question;
 
-    while (read_question(&question)) {
-        if (question.letter == 'V')
-            put_verdict(&question);
-        else
-            put_signature(folder, &question);
+    set_threads(threads);
+    while (read_question(question = room_for_question())) {
+        if (question->letter == 'V') {
+            give_out();
+        } else {
+            answer_all();
+            put_signature(folder, question);
+        }
     }
+    answer_all();
 }

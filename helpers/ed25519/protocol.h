@@ -2,8 +2,9 @@
 #ifndef PROTOCOL_H
 #define PROTOCOL_H
 
-/* Answers the questions on standard input, each at once, until the input ends between two. Signs with the keys of the
-   folder; without one, with none. What goes wrong ends the program. */
-void serve(const char *folder);
+/* Answers the questions on standard input, in their order, until the input ends between two. Signs with the keys of the
+   folder; without one, with none. So many threads verify besides (set_threads). What goes wrong ends the program, once
+   the questions before it are answered. */
+void serve(const char *folder, const char *threads);
 
 #endif
