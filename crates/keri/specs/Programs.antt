@@ -7,8 +7,10 @@ use Rattle.std.specs.declared.option.Option.TheVariants.{None}
 use Rattle.std.specs.declared.process.command.Command.{Command}
 use Rattle.verifier_link.specs.declared.helper.Helper.{Helper}
 use Rattle.verifier_link.specs.declared.helper.Helper.TheVariants.{Rehearsal, Program}
-use Rattle.keri.specs.declared.real_sink.RealSink.{RealSink}
-use Rattle.keri.specs.declared.real_source.RealSource.{RealSource}
+use Rattle.edges.specs.declared.sink_over.SinkOver.{SinkOver}
+use Rattle.edges.specs.declared.source_over.SourceOver.{SourceOver}
+use Rattle.keri.specs.declared.real_sink.Target.{Target}
+use Rattle.keri.specs.declared.real_source.Origin.{Origin}
 use Rattle.keri.specs.declared.started_program.StartedProgram.{StartedProgram}
 
 -- the command that a program was started by
@@ -26,11 +28,11 @@ abbrev pub is_rehearsal : List ℕ → Bool
 is_rehearsal name = bytes_eq name (codes "rehearsal")
 
 -- the helper is the program of this name
-abbrev pub IsProgram : List ℕ → Helper RealSource RealSink StartedProgram → Type 0
+abbrev pub IsProgram : List ℕ → Helper (SourceOver Origin) (SinkOver Target) StartedProgram → Type 0
 IsProgram name (Rehearsal rehearsal) = ⊥
 IsProgram name (Program link program) = IsStarted name program
 
 -- the helper is the one of this name
-abbrev pub IsNamed : List ℕ → Helper RealSource RealSink StartedProgram → Type 0
+abbrev pub IsNamed : List ℕ → Helper (SourceOver Origin) (SinkOver Target) StartedProgram → Type 0
 IsNamed name (Rehearsal rehearsal) = is_rehearsal name ≡ true
 IsNamed name (Program link program) = (is_rehearsal name ≡ false) × IsStarted name program

@@ -5,11 +5,12 @@ use Rattle.keri.specs.Opened.{IsOpenedAt}
 use Rattle.keri.specs.declared.opened.Access.TheVariants.{Read}
 use Rattle.keri.specs.declared.real_source.Origin.{Origin}
 use Rattle.keri.specs.declared.real_source.Origin.TheVariants.{File, Input, Child, Link}
-use Rattle.keri.specs.declared.real_source.RealSource.{RealSource}
+use Rattle.edges.specs.Over.{read_by}
+use Rattle.edges.specs.declared.source_over.SourceOver.{SourceOver}
 
 -- what a source reads
-abbrev pub source_origin : RealSource → Origin
-source_origin source = source.origin
+abbrev pub source_origin : SourceOver Origin → Origin
+source_origin source = read_by source
 
 -- `-` is the name of standard input, and each other one that of a file
 abbrev pub is_input : List ℕ → Bool
@@ -23,5 +24,5 @@ IsOriginOf name (Child output) = ⊥
 IsOriginOf name (Link link) = ⊥
 
 -- the source is the one of this name
-abbrev pub IsSourceOf : List ℕ → RealSource → Type 0
+abbrev pub IsSourceOf : List ℕ → SourceOver Origin → Type 0
 IsSourceOf name source = IsOriginOf name (source_origin source)

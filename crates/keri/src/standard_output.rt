@@ -1,6 +1,7 @@
 //! Standard output.
 
 use disk_file::file_size_limit;
+use edges::{room_in_file, write_within};
 use std::io::{Stdout, Write};
 use std::{fs, io};
 
@@ -31,25 +32,24 @@ impl StandardOutput<Stdout> {
 impl<W: Write + Drop> StandardOutput<W> {
     // How many bytes may be written yet.
     fn room(&self) -> u64 {
-        let Some(size) = self.size else {
-            return u64::MAX;
+        let (position, limit) = match self.size {
+            Some(_) => (
+                libc::lseek(libc::STDOUT_FILENO, 0, libc::SEEK_CUR),
+                file_size_limit(),
+            ),
+            None => (0, u64::MAX),
         };
-        let position = libc::lseek(libc::STDOUT_FILENO, 0, libc::SEEK_CUR);
-        let place = size.max(u64::try_from(position).unwrap_or(0));
-        file_size_limit().saturating_sub(place)
+        room_in_file(self.size, u64::try_from(position).unwrap_or(0), limit)
     }
 }
 
-// What was written is what the writer below has, as far as that one tells: no byte is passed over.
+// What was written is what the writer below has, as far as that one shows it: no byte is passed over.
 impl<W: Write + Drop> Write for StandardOutput<W> {
     ghost contents = { λ it. W.contents it.output };
 
     fn write(&mut self, bytes: &[u8]) -> io::Result<usize> {
-        let count = bytes.len().min(self.room() as usize);
-        if count == 0 {
-            return Ok(0);
-        }
-        self.output.write(&bytes[..count])
+        let room = self.room();
+        write_within(&mut self.output, room, bytes)
     }
 
     fn flush(&mut self) -> io::Result<()> {

@@ -16,23 +16,33 @@ const LINK_SECONDS: u64 = 300;
 #[derive(Drop)]
 pub(crate) struct TimedLink {
     rt: HostRuntime,
+    // The number of its peer, for contracts alone.
+    peer: u64,
     link: TcpStream,
     // The end of its time, once that has begun.
     end: Option<Instant>,
 }
 
 impl TimedLink {
+    ghost use Rattle.std.specs.Prelude.{◌≡◌, IfOk};
+    ghost use Rattle.keri.specs.Peers.{peer_of};
+
     /// A handle whose time begins with the first read or write.
-    pub(crate) fn new(rt: HostRuntime, link: TcpStream) -> TimedLink {
+    pub(crate) fn new(rt: HostRuntime, peer: u64, link: TcpStream) -> TimedLink
+        ensures { peer_of result ≡ peer }
+    {
         TimedLink {
             rt,
+            peer,
             link,
             end: None,
         }
     }
 
     /// It, with a time that begins now.
-    pub(crate) fn begun(self) -> io::Result<TimedLink> {
+    pub(crate) fn begun(self) -> io::Result<TimedLink>
+        ensures { IfOk result (λ begun. peer_of begun ≡ peer_of self) }
+    {
         let mut begun = self;
         begun.wait()?;
         Ok(begun)
@@ -40,7 +50,9 @@ impl TimedLink {
 
     // How long a read or a write that is asked for now may wait. Once the time of the link is up that is nothing,
     // which is refused as a limit.
-    fn wait(&mut self) -> io::Result<Duration> {
+    fn wait(&mut self) -> io::Result<Duration>
+        ensures { peer_of self.new ≡ peer_of self.old }
+    {
         let now = Instant::now(&self.rt)?;
         let end = match self.end {
             Some(end) => end,
