@@ -1,6 +1,6 @@
 /* What bench/helper times. `loop FILE` reads a file of verdict questions, and has libsodium verify each signature, one
-   after the other. `child FILE HELPER` starts the helper, and once it has answered the first question asks it all of
-   them, each when the one before is answered. Both print the seconds that all verdicts took. One that isn't yes ends
+   after the other. `child FILE HELPER N` starts the helper, and once it has answered the first question asks it all of
+   them, N ahead of the answers: with 1 each when the one before is answered. Both print the seconds that all verdicts took. One that isn't yes ends
    them. */
 #define _GNU_SOURCE
 #include <fcntl.h>
@@ -107,11 +107,15 @@ static void start(const char *helper, int *to, int *from)
     *from = answered[0];
 }
 
-static void ask(const struct question *questions, size_t count, int to, int from)
+/* Asks the questions, so many of which wait for their answers. */
+static void ask(const struct question *questions, size_t count, size_t ahead, int to, int from)
 {
-    for (const struct question *asked = questions; asked < questions + count; asked++) {
+    size_t asked = 0;
+
+    for (size_t answered = 0; answered < count; answered++) {
         char answer = 'N';
-        or_end(write_whole(to, asked->text, asked->length), "question");
+        for (; asked < count && asked < answered + ahead; asked++)
+            or_end(write_whole(to, questions[asked].text, questions[asked].length), "question");
         or_end(read_whole(from, &answer, 1) == 1 && answer == 'Y', "verdict");
     }
 }
@@ -121,17 +125,17 @@ int main(int words, char **word)
     size_t size, count;
     int to, from;
 
-    or_end((words == 3 && strcmp(word[1], "loop") == 0) || (words == 4 && strcmp(word[1], "child") == 0), "words");
+    or_end((words == 3 && strcmp(word[1], "loop") == 0) || (words == 5 && strcmp(word[1], "child") == 0), "words");
     or_end(sodium_init() >= 0, "libsodium");
     char *text = content(word[2], &size);
     struct question *questions = questions_of(text, size, &count);
-    if (words == 4) {
+    if (words == 5) {
         start(word[3], &to, &from);
-        ask(questions, 1, to, from);
+        ask(questions, 1, 1, to, from);
     }
     double begun = seconds();
-    if (words == 4)
-        ask(questions, count, to, from);
+    if (words == 5)
+        ask(questions, count, strtoul(word[4], NULL, 10), to, from);
     else
         loop(questions, count);
     printf("%.6f\n", seconds() - begun);
